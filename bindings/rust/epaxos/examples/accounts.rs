@@ -2,9 +2,9 @@
 //!
 //!     cargo run --example accounts
 //!
-//! A transfer is a command over both accounts. It requires that they have what its client was told last, and tells what
-//! they have: so one that comes behind another is undone, and its client asks again with what is there now. All three
-//! replicas are in one thread here, and their logs are in memory: `three.rs` has files.
+//! A transfer is a command over both accounts. It requires that they have what its client was answered last, and
+//! reports what they have: so one that comes behind another is undone, and its client asks again with what is there
+//! now. All three replicas are in one thread here, and their logs are in memory: `three.rs` has files.
 #![forbid(unsafe_code)]
 
 use epaxos::{Call, Cluster, Command, OwnedAnswer, Replica};
@@ -21,7 +21,7 @@ struct Client {
     call: Call,
     from: &'static str,
     to: &'static str,
-    /// What both have, as it was told last, by their names in rising order.
+    /// What both have, as the last answer said, by their names in rising order.
     has: BTreeMap<&'static str, u64>,
     is_waiting: bool,
     done: u32,
@@ -99,7 +99,7 @@ impl Three {
         Ok(three)
     }
 
-    /// Hands over what is on its way, and tells what clients are answered.
+    /// Hands over what is on its way, and returns what clients are answered.
     fn turn(&mut self) -> Result<Answers, Box<dyn Error>> {
         let mut answers = Vec::new();
         for (to, frame) in self.frames.drain(..) {

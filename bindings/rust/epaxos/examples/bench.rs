@@ -37,7 +37,7 @@ impl Frames {
     }
 }
 
-enum Told {
+enum Message {
     Frames(Frames),
     Put { call: Call, key: String, value: Vec<u8> },
     End,
@@ -49,21 +49,21 @@ struct Done {
     stamp: u64,
 }
 
-/// Takes what comes, and hands on what there is to send and to tell.
+/// Takes what comes, and hands on what there is to send and to answer.
 fn run(
     mut replica: Replica,
-    inbox: &Receiver<Told>,
-    peers: &[Sender<Told>],
+    inbox: &Receiver<Message>,
+    peers: &[Sender<Message>],
     clients: &Sender<Vec<Done>>,
 ) -> Result<(), Fault> {
     while let Ok(first) = inbox.recv() {
-        for told in std::iter::once(first).chain(inbox.try_iter().take(BATCH)) {
-            match told {
-                Told::Frames(frames) => frames.iter().try_for_each(|frame| replica.handle(frame))?,
-                Told::Put { call, key, value } => {
+        for message in std::iter::once(first).chain(inbox.try_iter().take(BATCH)) {
+            match message {
+                Message::Frames(frames) => frames.iter().try_for_each(|frame| replica.handle(frame))?,
+                Message::Put { call, key, value } => {
                     replica.propose(call, Command::Put { key: key.as_bytes(), value: &value })?;
                 }
-                Told::End => return replica.execute_all(),
+                Message::End => return replica.execute_all(),
             }
         }
         replica.advance()?;
@@ -74,7 +74,7 @@ fn run(
         }
         for (peer, frames) in peers.iter().zip(frames) {
             if !frames.ends.is_empty() {
-                let _ = peer.send(Told::Frames(frames));
+                let _ = peer.send(Message::Frames(frames));
             }
         }
         let done: Vec<Done> = output.receipts().map(|it| Done { client: it.client, stamp: it.stamp }).collect();
@@ -90,14 +90,14 @@ fn drive(
     me: u32,
     open: u32,
     value: usize,
-    at: &Sender<Told>,
+    at: &Sender<Message>,
     done: &Receiver<Vec<Done>>,
 ) -> Result<(), Box<dyn Error + Send + Sync>> {
     let mut requests = 0;
     let mut next = |client: u32, seen: u64| {
         requests += 1;
         let call = Call { client, request: requests, seen };
-        at.send(Told::Put { call, key: format!("k{}", (requests + me) % KEYS), value: vec![0; value] })
+        at.send(Message::Put { call, key: format!("k{}", (requests + me) % KEYS), value: vec![0; value] })
     };
     for index in 0..open {
         next(1 + me + 3 * index, 0)?;
@@ -116,13 +116,13 @@ fn drive(
 
 /// A round: how long its puts took.
 fn round(open: u32, value: usize) -> Result<Duration, Box<dyn Error + Send + Sync>> {
-    let (senders, inboxes): (Vec<_>, Vec<_>) = (0..3).map(|_| channel::<Told>()).unzip();
+    let (senders, inboxes): (Vec<_>, Vec<_>) = (0..3).map(|_| channel::<Message>()).unzip();
     let (mut replicas, mut clients) = (Vec::new(), Vec::new());
     for (me, inbox) in (0..).zip(inboxes) {
-        let (peers, (told, done)) = (senders.clone(), channel());
+        let (peers, (answers, done)) = (senders.clone(), channel());
         let mut replica = Replica::new(Cluster::Three, me)?;
         replica.ready()?.assume_synced()?;
-        replicas.push(thread::spawn(move || run(replica, &inbox, &peers, &told)));
+        replicas.push(thread::spawn(move || run(replica, &inbox, &peers, &answers)));
         clients.push(done);
     }
     let begun = Instant::now();
@@ -134,7 +134,7 @@ fn round(open: u32, value: usize) -> Result<Duration, Box<dyn Error + Send + Syn
         driver.join().expect("a driver panicked")?;
     }
     for at in &senders {
-        at.send(Told::End)?;
+        at.send(Message::End)?;
     }
     for replica in replicas {
         replica.join().expect("a replica panicked")?;

@@ -117,7 +117,7 @@ impl Folder {
             None => setup.begin()?,
         };
         for generation in first + 1..=newest {
-            let _told = replica.ready()?.assume_synced()?;
+            let _output = replica.ready()?.assume_synced()?;
             let reference = self.reference(generation)?.ok_or("a reference is gone")?;
             let log = self.log(generation, newest)?;
             drop(replica.succeed(&Succession { log: log.as_deref(), ..Succession::new(reference, me) })?);
@@ -178,7 +178,7 @@ impl Host {
         Ok(Host { me, folder, generation, replica, log, sum })
     }
 
-    /// The log first, and only then what there is to tell.
+    /// The log first, and only then what there is to report.
     fn turn(&mut self) -> Res<Output<'_>> {
         let ready = self.replica.ready()?;
         self.sum.add(ready.log());
@@ -219,19 +219,19 @@ fn begun(path: &Path, mut replica: Replica, marks: Option<(&Folder, u32)>) -> Re
             written(&folder.path(older, "left"), generation.to_string().as_bytes())?;
         }
     }
-    let _told = replica.written(kept)?;
+    let _output = replica.written(kept)?;
     Ok((log, sum, replica))
 }
 
 /// Hands over frames until there are none. Returns whether the generation is sealed.
-fn settle(hosts: &mut [Host], told: &mut BTreeMap<(u32, u32), u64>) -> Res<bool> {
+fn settle(hosts: &mut [Host], stamps: &mut BTreeMap<(u32, u32), u64>) -> Res<bool> {
     loop {
         let (mut frames, mut is_sealed) = (Frames::new(), true);
         for host in hosts.iter_mut() {
             host.replica.execute_all()?;
             let output = host.turn()?;
             frames.extend(output.frames().map(|it| (it.to, it.bytes.to_vec())));
-            told.extend(output.receipts().map(|it| ((it.client, it.request), it.stamp)));
+            stamps.extend(output.receipts().map(|it| ((it.client, it.request), it.stamp)));
             is_sealed &= output.is_sealed();
         }
         if frames.is_empty() {
@@ -245,7 +245,7 @@ fn settle(hosts: &mut [Host], told: &mut BTreeMap<(u32, u32), u64>) -> Res<bool>
 
 /// Clients put values at all three, and one seals the generation. A client's number and its request's name one command over all generations.
 fn play(hosts: &mut [Host]) -> Res<()> {
-    let (mut told, generation) = (BTreeMap::new(), hosts[0].generation);
+    let (mut stamps, generation) = (BTreeMap::new(), hosts[0].generation);
     // (what was sent before a start may be lost)
     let mut again = Frames::new();
     for host in hosts.iter_mut() {
@@ -254,20 +254,20 @@ fn play(hosts: &mut [Host]) -> Res<()> {
     for (to, frame) in again {
         hosts[usize::from(to)].replica.handle(&frame)?;
     }
-    settle(hosts, &mut told)?;
+    settle(hosts, &mut stamps)?;
     for request in 1..=PUTS {
         for host in hosts.iter_mut() {
             let client = 3 * generation + u32::from(host.me);
-            let seen = told.get(&(client, request - 1)).copied().unwrap_or(0);
+            let seen = stamps.get(&(client, request - 1)).copied().unwrap_or(0);
             let (key, value) = ((request % KEYS).to_string(), format!("{client}.{request}"));
             let put = Command::Put { key: key.as_bytes(), value: value.as_bytes() };
             host.replica.propose(Call { client, request, seen }, put)?;
         }
-        settle(hosts, &mut told)?;
+        settle(hosts, &mut stamps)?;
     }
     hosts[0].replica.propose(Call::new(1, generation), Command::Seal { value: b"next" })?;
-    let is_sealed = settle(hosts, &mut told)?;
-    if is_sealed && told.len() as u32 == 3 * PUTS + 1 { Ok(()) } else { Err("something wasn't told".into()) }
+    let is_sealed = settle(hosts, &mut stamps)?;
+    if is_sealed && stamps.len() as u32 == 3 * PUTS + 1 { Ok(()) } else { Err("something wasn't told".into()) }
 }
 
 fn map(replica: &mut Replica) -> Res<Map> {

@@ -12,7 +12,7 @@ use std::error::Error;
 
 const TIMES: u32 = 5;
 
-/// An owner: what it has asked last, and what it was told.
+/// An owner: what it has asked last, and what it was answered.
 struct Owner {
     call: Call,
     token: String,
@@ -32,7 +32,8 @@ impl Owner {
         Ok(())
     }
 
-    /// What the key had tells whether it was done. Where the answer says that another owner has the lock, or that the command was lost, it asks again.
+    /// What the key had shows whether it was done. Where the answer says that another owner has the lock, or that the
+    /// command was lost, it asks again.
     fn hear(&mut self, answer: Answer, stamp: u64) {
         self.call.seen = self.call.seen.max(stamp);
         self.is_waiting = false;
@@ -86,7 +87,8 @@ fn main() -> Result<(), Box<dyn Error>> {
                     println!("{} {}", owner.token, if had_it { "gives it back" } else { "has the lock" });
                 }
             }
-            // What is told of a lock is old by the time it is told; but nobody has it before the one who had it has given it back.
+            // What an answer says of a lock is old by the time it comes; but nobody has it before the one who had it
+            // has given it back.
             assert!(owners.iter().filter(|owner| owner.has_it).count() <= 1, "the lock is in two hands");
         }
     }

@@ -27,7 +27,7 @@ fn body(amount: u64) -> [u8; 8] {
 #[derive(Default, PartialEq, Eq, Debug)]
 struct Bank {
     accounts: BTreeMap<Vec<u8>, u64>,
-    /// What each instance was told, so that the replica that proposed it can tell its client.
+    /// What each instance was answered, so that the replica that proposed it can answer its client.
     replies: BTreeMap<Instance, bool>,
 }
 
@@ -64,8 +64,8 @@ impl Bank {
     }
 }
 
-/// The same for a host, which tells its clients itself: the reply is what the account has, to who only looks, and else
-/// whether it was done.
+/// The same for a host, which answers its clients itself: the reply is what the account has, to who only looks, and
+/// else whether it was done.
 impl Machine for Bank {
     fn apply(&mut self, ordered: &Ordered) -> Vec<u8> {
         if ordered.is_reading {

@@ -4,7 +4,7 @@
 //! With `new` three hosts take turns in this thread, the first with the folder, the others with disks in memory. Its
 //! client asks for one thing after the other, through changes of generation and openings that are written; for a while
 //! it is cut off, and takes an opening then. Before anything goes out of it a line says on what that rests: the
-//! generation, how many entries its log has, and what its client was told last of a key and of the machine. With
+//! generation, how many entries its log has, and what its client was answered last of a key and of the machine. With
 //! `again` it goes on with the folder, alone, and lines say what it has; or why it doesn't start. With `begin` it does
 //! so as a new one. With `serve` three services are asked, each with its threads.
 #![forbid(unsafe_code)]
@@ -111,8 +111,8 @@ impl<D: Disk> One<D> {
     }
 }
 
-/// Tells on what that rests which goes out now.
-fn tell(status: &Status, [key, machine]: [u64; 2]) -> io::Result<()> {
+/// Reports on what that rests which goes out now.
+fn report(status: &Status, [key, machine]: [u64; 2]) -> io::Result<()> {
     // (in one write)
     let line = format!("{} {} {key} {machine}\n", status.generation, status.entries);
     io::stdout().write_all(line.as_bytes())
@@ -139,7 +139,7 @@ fn live(folder: Folder) -> Res<()> {
     let link = |host: &mut Host, me: u8| (0..3).filter(|it| *it != me).for_each(|it| host.link_opened(it, now));
     link(&mut first.host, 0);
     (1..).zip(&mut others).for_each(|(me, it)| link(&mut it.host, me));
-    let (mut asked, mut open, mut told, mut away, mut away_from) = (0, None, [0, 0], false, 0);
+    let (mut asked, mut open, mut answered, mut away, mut away_from) = (0, None, [0, 0], false, 0);
     for number in 0..MOST_TURNS {
         let newest = others[0].host.status().generation;
         if asked == AWAY && open.is_none() && away_from == 0 {
@@ -163,14 +163,14 @@ fn live(folder: Folder) -> Res<()> {
                     open = None;
                     match &reply.told {
                         _ if me > 0 => {}
-                        Told::Done(_) => told[0] = asked,
-                        Told::Replied(count) => told[1] = number_in(count)?,
+                        Told::Done(_) => answered[0] = asked,
+                        Told::Replied(count) => answered[1] = number_in(count)?,
                         other => return Err(format!("{other:?}").into()),
                     }
                 }
                 // (who greets others in its first turn has nothing on its disk)
                 let is_some = me == 0 && number > 0 && (!turn.frames.is_empty() || !turn.replies.is_empty());
-                if is_some { Ok(tell(&host.status(), told)?) } else { Ok(()) }
+                if is_some { Ok(report(&host.status(), answered)?) } else { Ok(()) }
             };
             let sent = match me {
                 0 => first.turn(number, now, go_out)?.frames,
@@ -192,7 +192,7 @@ fn live(folder: Folder) -> Res<()> {
 /// Asks, until a later generation has begun and the first is dropped, however long threads take for that.
 fn serve(place: &str) -> Res<()> {
     let folder = Folder::open(place)?;
-    let (network, mut told) = (LocalNetwork::new(Cluster::Three), [0, 0]);
+    let (network, mut answered) = (LocalNetwork::new(Cluster::Three), [0, 0]);
     let link = |me: u8| (settings(me), network.link(me));
     let (own, link_of_first) = link(0);
     let first = Service::with_machine(&own, Start::New, (folder, link_of_first), SystemClock, Count(0))?;
@@ -209,9 +209,9 @@ fn serve(place: &str) -> Res<()> {
         loop {
             let done = match ask(asked) {
                 command @ OwnedCommand::Opaque { .. } => {
-                    first.apply(command).map(|reply| number_in(&reply).map(|it| told[1] = it))
+                    first.apply(command).map(|reply| number_in(&reply).map(|it| answered[1] = it))
                 }
-                command => first.call(command).map(|_| Ok(told[0] = asked)),
+                command => first.call(command).map(|_| Ok(answered[0] = asked)),
             };
             match done {
                 // (the others may just be starting)
@@ -221,7 +221,7 @@ fn serve(place: &str) -> Res<()> {
                 done => break done??,
             }
         }
-        tell(&first.status()?, told)?;
+        report(&first.status()?, answered)?;
     }
     Ok(first.stop()?)
 }
@@ -239,7 +239,7 @@ fn go_on(folder: Folder, start: Start) -> Res<()> {
             generation = status.generation;
             let key = one.host.look_up(b"x")?.map_or(Ok(0), |value| number_in(&value))?;
             let machine = one.host.machine().map_or(Ok(0), |it| number_in(&it.snapshot()))?;
-            tell(&status, [key, machine])?;
+            report(&status, [key, machine])?;
         }
     }
     Ok(())

@@ -102,30 +102,30 @@ fn plan_of(options: &Options, seed: u64) -> Plan {
 /// broken off, and named.
 fn seeds(options: &Arc<Options>, plant: Option<Plant>) -> (u64, Seen, Option<u64>) {
     let (next, is_over) = (Arc::new(AtomicU64::new(options.first)), Arc::new(AtomicBool::new(false)));
-    let (tell, told) = mpsc::channel();
+    let (sender, receiver) = mpsc::channel();
     let last =
         options.first.saturating_add(options.seeds.unwrap_or(if options.time.is_some() { u64::MAX } else { 100 }));
     for _ in 0..options.threads {
-        let (options, next, is_over, tell) = (options.clone(), next.clone(), is_over.clone(), tell.clone());
+        let (options, next, is_over, sender) = (options.clone(), next.clone(), is_over.clone(), sender.clone());
         thread::spawn(move || {
             while !is_over.load(Ordering::Relaxed) {
                 let seed = next.fetch_add(1, Ordering::Relaxed);
                 // (nobody listens any more once it is over)
-                if seed >= last || tell.send((seed, None)).is_err() {
+                if seed >= last || sender.send((seed, None)).is_err() {
                     break;
                 }
-                let _ = tell.send((seed, Some(run_seed(&options, seed, plant))));
+                let _ = sender.send((seed, Some(run_seed(&options, seed, plant))));
             }
         });
     }
-    drop(tell);
+    drop(sender);
     let (begun, mut count, mut all, mut running) = (Instant::now(), 0, Seen::default(), BTreeMap::new());
     loop {
         let left = options.time.map_or(Duration::MAX, |time| time.saturating_sub(begun.elapsed()));
         if left.is_zero() {
             break;
         }
-        match told.recv_timeout(left) {
+        match receiver.recv_timeout(left) {
             Ok((seed, None)) => _ = running.insert(seed, Instant::now()),
             Ok((seed, Some((seen, failure)))) => {
                 count += 1;

@@ -22,8 +22,8 @@ const KEYS: u32 = 5;
 /// Between two looks for what is late.
 const LOOK: Duration = Duration::from_millis(20);
 
-/// What a replica's thread is told.
-enum Told {
+/// What a replica's thread is sent.
+enum Message {
     Frame(Vec<u8>),
     /// A client puts a value at a key, and waits for the stamp of its receipt.
     Put {
@@ -58,9 +58,9 @@ struct Read {
 struct Host {
     replica: Replica,
     file: LogFile,
-    /// The receipts of what clients were told, for an audit.
+    /// The receipts of what clients were answered, for an audit.
     receipts: File,
-    peers: Vec<Sender<Told>>,
+    peers: Vec<Sender<Message>>,
     patience: Patience,
     begun: Instant,
     /// The clients that wait, by their numbers.
@@ -76,7 +76,7 @@ impl Host {
         folder: &Path,
         me: u8,
         is_first: bool,
-        peers: Vec<Sender<Told>>,
+        peers: Vec<Sender<Message>>,
     ) -> Result<Host, Box<dyn Error + Send + Sync>> {
         let path = folder.join("1/log");
         let (file, replica) = if is_first {
@@ -99,24 +99,24 @@ impl Host {
     }
 
     /// Takes what comes until it is to end.
-    fn run(mut self, inbox: &Receiver<Told>) -> Result<(), Box<dyn Error + Send + Sync>> {
+    fn run(mut self, inbox: &Receiver<Message>) -> Result<(), Box<dyn Error + Send + Sync>> {
         self.settle()?;
         // What was sent before this start may be lost, and of a Commit that is lost nothing may be open: all is sent once more.
         for frame in self.replica.report(0, 0)?.frames() {
-            let _ = self.peers[usize::from(frame.to)].send(Told::Frame(frame.bytes.to_vec()));
+            let _ = self.peers[usize::from(frame.to)].send(Message::Frame(frame.bytes.to_vec()));
         }
         loop {
             let first = inbox.recv_timeout(LOOK).ok();
-            for told in first.into_iter().chain(inbox.try_iter()) {
-                match told {
-                    Told::Frame(frame) => _ = self.replica.handle(&frame),
-                    Told::Put { call, key, value, done } => {
+            for message in first.into_iter().chain(inbox.try_iter()) {
+                match message {
+                    Message::Frame(frame) => _ = self.replica.handle(&frame),
+                    Message::Put { call, key, value, done } => {
                         self.replica.propose(call, Command::Put { key: key.as_bytes(), value: value.as_bytes() })?;
                         self.waiting.push((call.client, done));
                     }
-                    Told::Look { key, found } => self.looks.push((key, found)),
-                    Told::Read(read) => self.reads.push(read),
-                    Told::Map { keys, values } => {
+                    Message::Look { key, found } => self.looks.push((key, found)),
+                    Message::Read(read) => self.reads.push(read),
+                    Message::Map { keys, values } => {
                         self.replica.execute_all()?;
                         self.settle()?;
                         let mut found = Vec::new();
@@ -125,7 +125,7 @@ impl Host {
                         }
                         let _ = values.send(found);
                     }
-                    Told::End => return Ok(()),
+                    Message::End => return Ok(()),
                 }
             }
             // (a read waits for what others have proposed, too)
@@ -142,7 +142,7 @@ impl Host {
     fn settle(&mut self) -> Result<(), Box<dyn Error + Send + Sync>> {
         let output = self.replica.ready_with_open(64)?.commit(&mut self.file)?;
         for frame in output.frames() {
-            let _ = self.peers[usize::from(frame.to)].send(Told::Frame(frame.bytes.to_vec()));
+            let _ = self.peers[usize::from(frame.to)].send(Message::Frame(frame.bytes.to_vec()));
         }
         for receipt in output.receipts() {
             self.receipts.write_all(receipt.bytes)?;
@@ -153,7 +153,7 @@ impl Host {
         }
         let now = self.begun.elapsed().as_micros() as u64;
         let open: Vec<_> = output.open().collect();
-        self.tell_readers()?;
+        self.answer_readers()?;
         let late = self.patience.turn(now, &open, &[])?;
         for event in &late {
             let _refused = self.replica.take(event);
@@ -162,14 +162,14 @@ impl Host {
     }
 
     /// Answers looks and reads, once all that was taken is on the disk. A read whose instances aren't all executed waits.
-    fn tell_readers(&mut self) -> Result<(), Box<dyn Error + Send + Sync>> {
+    fn answer_readers(&mut self) -> Result<(), Box<dyn Error + Send + Sync>> {
         for (key, found) in self.looks.drain(..) {
             let _ = found.send(self.replica.interfering(&[key.as_bytes()])?.concat());
         }
         let reads: Vec<_> = self.reads.iter().map(|it| (it.key.as_bytes(), &it.found[..])).collect();
-        let told = self.replica.read(&reads)?;
-        for (read, told) in std::mem::take(&mut self.reads).into_iter().zip(told) {
-            match told {
+        let readings = self.replica.read(&reads)?;
+        for (read, reading) in std::mem::take(&mut self.reads).into_iter().zip(readings) {
+            match reading {
                 OwnedReading::Waits(_) => self.reads.push(read),
                 OwnedReading::Present(value) => _ = read.value.send(Some(value)),
                 OwnedReading::Absent | OwnedReading::Closed => _ = read.value.send(None),
@@ -179,15 +179,15 @@ impl Host {
     }
 }
 
-/// A client of replica `me`: puts values one after the other, and hands on the stamps that it is told.
-fn client(number: u32, me: usize, replicas: &[Sender<Told>]) -> Result<(), Box<dyn Error + Send + Sync>> {
+/// A client of replica `me`: puts values one after the other, and hands on the stamps of its receipts.
+fn client(number: u32, me: usize, replicas: &[Sender<Message>]) -> Result<(), Box<dyn Error + Send + Sync>> {
     let mut seen = 0;
     for request in 1..=PUTS {
         // (where the replica ends without an answer nobody has `done` any more, and the wait ends)
         let (done, stamps) = channel();
         let (key, value) = (format!("key {}", request % KEYS), format!("{number}.{request}"));
         let put =
-            Told::Put { call: Call { client: number, request, seen }, key: key.clone(), value: value.clone(), done };
+            Message::Put { call: Call { client: number, request, seen }, key: key.clone(), value: value.clone(), done };
         replicas[me].send(put)?;
         seen = stamps.recv()?;
         // What was put is read anywhere, or what another client put since.
@@ -201,18 +201,22 @@ fn client(number: u32, me: usize, replicas: &[Sender<Told>]) -> Result<(), Box<d
     Ok(())
 }
 
-/// Reads the key at a replica: this one and another one, so F + 1, tell what interferes with the read.
-fn read(key: String, reader: &Sender<Told>, other: &Sender<Told>) -> Result<Vec<u8>, Box<dyn Error + Send + Sync>> {
+/// Reads the key at a replica: this one and another one, so F + 1, report what interferes with the read.
+fn read(
+    key: String,
+    reader: &Sender<Message>,
+    other: &Sender<Message>,
+) -> Result<Vec<u8>, Box<dyn Error + Send + Sync>> {
     let (found, looks) = channel();
     for replica in [reader, other] {
-        replica.send(Told::Look { key: key.clone(), found: found.clone() })?;
+        replica.send(Message::Look { key: key.clone(), found: found.clone() })?;
     }
     drop(found);
     let mut found = [looks.recv()?, looks.recv()?].concat();
     found.sort();
     found.dedup();
     let (value, values) = channel();
-    reader.send(Told::Read(Read { key, found, value }))?;
+    reader.send(Message::Read(Read { key, found, value }))?;
     values.recv()?.ok_or_else(|| "a key that was put has no value".into())
 }
 
@@ -242,7 +246,7 @@ pub fn run(folder: &Path) -> Result<(), Box<dyn Error>> {
     let starts = starts(folder)?;
     // A client's number and its request's name one command, over all starts: each start has numbers of its own.
     let first = 3 * starts + 1;
-    let (senders, inboxes): (Vec<_>, Vec<_>) = (0..3).map(|_| channel::<Told>()).unzip();
+    let (senders, inboxes): (Vec<_>, Vec<_>) = (0..3).map(|_| channel::<Message>()).unzip();
     let begun = Instant::now();
     let mut replicas = Vec::new();
     for (me, inbox) in (0..).zip(inboxes) {
@@ -266,7 +270,7 @@ pub fn run(folder: &Path) -> Result<(), Box<dyn Error>> {
     loop {
         let (values, maps) = channel();
         for at in &senders {
-            at.send(Told::Map { keys: keys.clone(), values: values.clone() })?;
+            at.send(Message::Map { keys: keys.clone(), values: values.clone() })?;
         }
         drop(values);
         let maps: Vec<_> = maps.iter().take(3).collect();
@@ -286,7 +290,7 @@ pub fn run(folder: &Path) -> Result<(), Box<dyn Error>> {
         thread::sleep(LOOK);
     }
     for at in &senders {
-        at.send(Told::End)?;
+        at.send(Message::End)?;
     }
     for replica in replicas {
         replica.join().expect("a replica panicked").map_err(|error| error.to_string())?;

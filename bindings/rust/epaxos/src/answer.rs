@@ -4,7 +4,7 @@
 use crate::ValuesOf;
 use crate::bytes::{Fields, push_block};
 
-/// An answer whose value is lent, as it is told.
+/// An answer whose value is lent, as it is answered.
 ///
 /// ```
 /// # fn of(receipt: &epaxos::Receipt) {
@@ -102,8 +102,8 @@ impl<B: AsRef<[u8]>> AnswerOf<B> {
 }
 
 impl<'a> Answer<'a> {
-    /// The value that the command's first key had, if it tells one. (What a [`Tx`](crate::Command::Tx) asks for is told
-    /// by its answer's [values](crate::ValuesOf).)
+    /// The value that the command's first key had, if it has one. (What a [`Tx`](crate::Command::Tx) asks for is
+    /// reported by its answer's [values](crate::ValuesOf).)
     ///
     /// ```
     /// # use epaxos::Answer;

@@ -1,7 +1,8 @@
 //! Whose command it is.
 #![forbid(unsafe_code)]
 
-/// Whose command it is. A client has a number from 1, numbers its requests from 1, and hands on the greatest stamp that it was told.
+/// Whose command it is. A client has a number from 1, numbers its requests from 1, and hands on the greatest stamp that
+/// it knows from receipts.
 ///
 /// A pair of a client and a request names one command, over all starts: the core doesn't compare them, so a request that is proposed
 /// twice is executed twice, and the receipt of one may be taken for the other's. So after a start a client's number is used again only where its requests go on
@@ -22,8 +23,8 @@ pub struct Call {
     pub client: u32,
     /// Its request, from 1.
     pub request: u32,
-    /// The greatest stamp of all receipts that the client knows of; 0 if none. The command then stands behind what those tell of in the
-    /// history that an audit makes.
+    /// The greatest stamp of all receipts that the client knows of; 0 if none. The command then stands behind what
+    /// those report in the history that an audit makes.
     pub seen: u64,
 }
 

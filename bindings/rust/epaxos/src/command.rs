@@ -39,7 +39,8 @@ pub type OwnedCommand = CommandOf<Vec<u8>>;
 /// ```
 #[derive(Clone, Copy, PartialEq, Eq, Hash, Debug)]
 pub enum CommandOf<B> {
-    /// Tells the value of a key. As any command it sees all that was answered before it was proposed, at whichever replica.
+    /// Answers the value of a key. As any command it sees all that was answered before it was proposed, at whichever
+    /// replica.
     Get {
         /// The key.
         key: B,

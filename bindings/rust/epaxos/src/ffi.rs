@@ -335,7 +335,7 @@ impl Handle {
         unsafe { ep_execute_all(self.held()) }
     }
 
-    /// Lends what is to be written, and tells whether it takes the place of the whole log.
+    /// Lends what is to be written, and returns whether it takes the place of the whole log.
     pub(crate) fn ready(&mut self) -> (u8, bool) {
         let (mut lent, mut is_anew) = (Bytes::EMPTY, 0);
         let status = unsafe { ep_ready(self.held(), &mut lent, &mut is_anew) };
@@ -349,24 +349,24 @@ impl Handle {
     }
 
     /// Lends answers.
-    pub(crate) fn answers(&mut self, told: u32, most: u8) -> u8 {
+    pub(crate) fn answers(&mut self, reported: u32, most: u8) -> u8 {
         let mut lent = Bytes::EMPTY;
-        let status = unsafe { ep_answers(self.held(), told, most, &mut lent) };
+        let status = unsafe { ep_answers(self.held(), reported, most, &mut lent) };
         self.lent = lent;
         status
     }
 
     /// The same, with what was proposed and executed.
-    pub(crate) fn answers_all(&mut self, told: u32, most: u8) -> u8 {
+    pub(crate) fn answers_all(&mut self, reported: u32, most: u8) -> u8 {
         let mut lent = Bytes::EMPTY;
-        let status = unsafe { ep_answers_all(self.held(), told, most, &mut lent) };
+        let status = unsafe { ep_answers_all(self.held(), reported, most, &mut lent) };
         self.lent = lent;
         status
     }
 
     /// Has such answers made of what is lent.
-    pub(crate) fn prepare_all(&mut self, told: u32, most: u8) -> u8 {
-        unsafe { ep_prepare_all(self.held(), told, most) }
+    pub(crate) fn prepare_all(&mut self, reported: u32, most: u8) -> u8 {
+        unsafe { ep_prepare_all(self.held(), reported, most) }
     }
 
     /// Lends them.
@@ -468,7 +468,7 @@ impl Drop for CheckpointHandle {
     }
 }
 
-/// What tells when to wait no longer, and what it lends.
+/// What says when to wait no longer, and what it lends.
 #[derive(Debug)]
 pub(crate) struct PatienceHandle {
     held: Patience,

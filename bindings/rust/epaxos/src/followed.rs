@@ -1,4 +1,4 @@
-//! What entries proposed and executed, as the library tells it (docs/FORMATS.md, section 10).
+//! What entries proposed and executed, as the library reports it (docs/FORMATS.md, section 10).
 #![forbid(unsafe_code)]
 
 use crate::bytes::Fields;
@@ -131,11 +131,11 @@ mod tests {
         let (proposed, executed) = (followed.proposed(), followed.executed());
         assert_eq!((proposed.len(), executed.len()), (1, 2));
         assert_eq!(proposed.collect::<Vec<_>>(), [Proposed { client: 7, request: 9, instance: own }]);
-        let told = [
+        let expected = [
             Executed { instance: other, command: None, answer: Answer::Lost },
             Executed { instance: own, command: Some(put), answer: Answer::Present(b"0") },
         ];
-        assert_eq!(executed.collect::<Vec<_>>(), told);
+        assert_eq!(executed.collect::<Vec<_>>(), expected);
         // (what is cut behind an item is whole)
         let whole = (0..answer.len()).filter(|cut| Followed::read(&answer[..*cut]).is_some()).collect::<Vec<_>>();
         assert_eq!(whole, [1, 13, 25]);

@@ -42,7 +42,7 @@
 //! }
 //! hosts[0].call(7, OwnedCommand::Put { key: b"x".into(), value: b"1".into() }, now);
 //! let mut frames = VecDeque::new();
-//! let told = 'told: loop {
+//! let reply = 'replied: loop {
 //!     for (me, (host, disk)) in hosts.iter_mut().zip(&mut disks).enumerate() {
 //!         let turn = host.turn(now)?;
 //!         frames.extend(turn.frames.into_iter().map(|(to, bytes)| (me as u8, to, bytes)));
@@ -56,10 +56,10 @@
 //!                     Act::Drop { below } => disk.0.retain(|(it, _), _| *it == 0 || *it >= below),
 //!                 }
 //!             }
-//!             host.synced(writes.number, now)?; // and only now is anything told of it
+//!             host.synced(writes.number, now)?; // and only now does anything go out of it
 //!         }
 //!         if let Some(reply) = turn.replies.into_iter().next() {
-//!             break 'told reply;
+//!             break 'replied reply;
 //!         }
 //!     }
 //!     while let Some((from, to, bytes)) = frames.pop_front() {
@@ -67,7 +67,7 @@
 //!     }
 //!     now += Duration::from_millis(1);
 //! };
-//! assert_eq!((told.token, told.told), (7, Told::Done(epaxos::Answer::Absent.to_owned())));
+//! assert_eq!((reply.token, reply.told), (7, Told::Done(epaxos::Answer::Absent.to_owned())));
 //! # Ok(()) }
 //! ```
 #![forbid(unsafe_code)]
@@ -217,14 +217,14 @@ pub struct Host {
     reads: Reading<u64>,
     here: Vec<Here>,
     /// The machines whom the last seal named; of the others whom this host has met first; and those that wait to be let
-    /// in, with when they told so.
+    /// in, with when they said so.
     named: Members,
     met: Vec<Option<Identity>>,
     outside: BTreeMap<(u8, Identity), Instant>,
     wishes: Wishes<u64>,
     ids: Ids,
     calls: Calls<Held>,
-    /// The greatest stamp that was told.
+    /// The greatest stamp that a receipt had.
     seen: u64,
     /// What is to be asked of the core.
     pending: Pending<Held>,
@@ -259,7 +259,7 @@ pub struct Host {
     going: Option<Going>,
     taken: Option<(u32, Vec<u8>)>,
     lag: Lag,
-    /// Of a host that joins: the generations that peers have told, and the least one that it may begin with.
+    /// Of a host that joins: the generations that peers have named, and the least one that it may begin with.
     joins: Option<BTreeMap<u8, u32>>,
     least: u32,
     /// Of one that has an identity: the last generation that was looked at, and doesn't name it.
@@ -269,13 +269,13 @@ pub struct Host {
     due: Instant,
     counts: Counts,
     out: Turn,
-    tells_changes: bool,
+    reports_changes: bool,
     /// When the seal of the present generation was executed, or an opening came, and how long the last change took.
     changes_since: Option<Instant>,
     changed_in: Duration,
     /// How many bytes of the log a start has cut off.
     cut: u64,
-    /// Whether it was told to end.
+    /// Whether it was asked to end.
     ends: bool,
 }
 
@@ -291,7 +291,7 @@ struct Counts {
 
 impl Host {
     /// The host of a new replica, whose disk has nothing, or what an earlier `begin` had put there before anything was
-    /// told.
+    /// answered.
     ///
     /// Once in a cluster's life: a replica whose disk is lost comes back by [`join`](Host::join).
     ///
@@ -396,7 +396,7 @@ impl Host {
     }
 
     /// This entry of a peer was seen in this generation before the start, by what a program keeps beside the disk:
-    /// where that peer has fewer, it has forgotten what it promised, and is told so. (What the log has handled is known
+    /// where that peer has fewer, it has forgotten what it promised, and learns so. (What the log has handled is known
     /// without it.) To be called before the first turn.
     ///
     /// ```
@@ -582,7 +582,7 @@ impl Host {
             due: now,
             counts: Counts::default(),
             out: Turn::default(),
-            tells_changes: false,
+            reports_changes: false,
             changes_since: None,
             changed_in: Duration::ZERO,
             cut: 0,
@@ -672,7 +672,7 @@ impl Host {
     /// let writes = host.turn(now)?.writes.ok_or("nothing to write")?;
     /// // (here they are written)
     /// host.synced(writes.number, now)?;
-    /// assert!(host.synced(writes.number, now).is_err()); // each is told once
+    /// assert!(host.synced(writes.number, now).is_err()); // each is reported once
     /// # Ok(()) }
     /// ```
     pub fn synced(&mut self, number: u64, now: Instant) -> Result<(), HostFault> {
@@ -708,7 +708,7 @@ impl Host {
         match self.acting {
             None => self.catch_up(now)?,
             Some(_) if self.busy.is_none() => match self.work(now) {
-                // (who waits is told before the host ends)
+                // (who waits is answered before the host ends)
                 Err(HostFault::Left(_)) if !self.out.replies.is_empty() => {
                     self.due = now;
                     return Ok(std::mem::take(&mut self.out));
@@ -725,7 +725,7 @@ impl Host {
         Ok(std::mem::take(&mut self.out))
     }
 
-    /// Whether [`Turn::changes`] tells what is written from now on. It isn't told at first.
+    /// Whether [`Turn::changes`] has what is written from now on. At first it hasn't.
     ///
     /// ```
     /// # use epaxos::{Cluster, host::{Host, Settings}, service::MemoryDisk};
@@ -735,8 +735,8 @@ impl Host {
     /// host.set_tells_changes(true);
     /// # Ok(()) }
     /// ```
-    pub fn set_tells_changes(&mut self, tells: bool) {
-        self.tells_changes = tells;
+    pub fn set_tells_changes(&mut self, reports: bool) {
+        self.reports_changes = reports;
     }
 
     /// When the next turn is due, if nothing happens before.
@@ -812,7 +812,7 @@ impl Host {
         }
     }
 
-    /// Once a second tells the peers how far this replica is, and looks after what waits.
+    /// Once a second reports to the peers how far this replica is, and looks after what waits.
     fn tick(&mut self, now: Instant) {
         if now < self.next_tick {
             return;
@@ -854,7 +854,7 @@ impl Host {
         let Busy { requests, done, is_core, change, .. } = busy;
         if let Some(acting) = self.acting.as_mut().filter(|_| is_core) {
             let is_observed = matches!(change, None | Some(Change::Sealed(..)));
-            let mut outcome = acting.synced(self.tells_changes, self.observer.as_mut().filter(|_| is_observed))?;
+            let mut outcome = acting.synced(self.reports_changes, self.observer.as_mut().filter(|_| is_observed))?;
             let mut proposed = std::mem::take(&mut outcome.proposed).into_iter();
             for (request, done) in requests.into_iter().zip(done) {
                 self.accept((request, done), &mut proposed, now)?;

@@ -52,19 +52,19 @@
 //! [`Patience::turn`] returns: it then asks the others.
 //!
 //! One loss leaves nothing open: that of a Commit, to a replica that has heard nothing else of its instance. It lacks the command until another one comes
-//! that depends on it. So the replica that sent the Commit tells it again, by [`Replica::report`]:
+//! that depends on it. So the replica that sent the Commit sends it again, by [`Replica::report`]:
 //!
-//! - when a link to a peer is up again, and after a start: what was told after the entries of which the peer is sure to have all frames
-//!   ([`Output::entries`] counts entries). 0 is always right, and tells all of the generation;
-//! - now and then, if the network loses single frames: what was told in the last seconds.
+//! - when a link to a peer is up again, and after a start: what was sent after the entries of which the peer is sure to
+//!   have all frames ([`Output::entries`] counts entries). 0 is always right, and sends all of the generation;
+//! - now and then, if the network loses single frames: what was sent in the last seconds.
 //!
 //! A frame that comes twice does no harm; it costs its receiver an entry of its log.
 //!
 //! # Reads
 //!
 //! [`Replica::get`] looks into one replica's map, which may be old. A client's read is a [`Command::Get`], or a
-//! [`Replica::read`], which takes no instance and writes nothing, once F + 1 replicas have told what interferes with it
-//! ([`Replica::interfering`]). `examples/three.rs` reads so.
+//! [`Replica::read`], which takes no instance and writes nothing, once F + 1 replicas have reported what interferes
+//! with it ([`Replica::interfering`]). `examples/three.rs` reads so.
 //!
 //! # Where the core runs
 //!
@@ -77,7 +77,7 @@
 //! # What is proved, and what you owe
 //!
 //! Proved of the core: it is safe, it ends, running out of memory is an answer, a refused call has changed nothing, what is taken is one step of
-//! the protocol, and nothing is told of an entry that isn't among those that you said are on the disk. So no two replicas commit different commands in an
+//! the protocol, and nothing is reported of an entry that isn't among those that you said are on the disk. So no two replicas commit different commands in an
 //! instance, and all execute interfering commands in one order. This crate, which carries bytes to the core and back, isn't proved. You owe:
 //!
 //! - The bytes of [`Ready::log`] are on the disk before there is an output: [`LogFile`] sees to it, a [`Log`] of your own has to, and whoever calls
@@ -88,7 +88,7 @@
 //!
 //! # An audit
 //!
-//! An audit of the logs of all replicas, and of what clients were told, says whether one history of one map explains them, or names the first fault. Once the
+//! An audit of the logs of all replicas, and of what clients were answered, says whether one history of one map explains them, or names the first fault. Once the
 //! replicas have stopped, `epaxos collect` makes a bundle of their folders. A replica's folder has, for generation 1, the file `1/log`, and beside it
 //! `1/opening`, which is what the generation opened with ([`Cluster::first_opening`]; of a later one, the very bytes that the replica was begun with). So a host
 //! keeps its log there from the start, or copies it there for the audit:

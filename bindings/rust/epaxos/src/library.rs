@@ -9,7 +9,7 @@ use crate::status::{self, DONE, NONE, NOT_COMMITTED, TOO_SHORT};
 use crate::{Begin, CloseFault, Cluster, Event, Fault, Instance, OpenFault, State, SucceedFault, Succession};
 use std::ops::Range;
 
-/// No entry has this number: behind it there is nothing to tell.
+/// No entry has this number: behind it there is nothing to report.
 const NOTHING: u32 = u32::MAX;
 
 /// How many bytes the length of an answer has.
@@ -24,10 +24,10 @@ pub(crate) struct Library {
     /// How many bytes are lent to be written, and whether they take the place of the whole log.
     lent: usize,
     is_anew: bool,
-    /// Whether what there is to tell of it was made, so that more may be taken.
+    /// Whether what there is to report of it was made, so that more may be taken.
     is_begun: bool,
-    /// Where the last report stands in what the handle lends, and what was proposed and executed by what it tells of.
-    told: Range<usize>,
+    /// Where the last report stands in what the handle lends, and what was proposed and executed by what it is of.
+    report: Range<usize>,
     followed: Range<usize>,
     request: Vec<u8>,
 }
@@ -54,7 +54,7 @@ impl Library {
             lent: 0,
             is_anew: false,
             is_begun: false,
-            told: 0..0,
+            report: 0..0,
             followed: 0..0,
             request: Vec::new(),
         })
@@ -74,12 +74,12 @@ impl Library {
         self.handle.free();
     }
 
-    /// While something is lent nothing is told. (A refused call of the library would end the lending of the bytes.)
+    /// While something is lent nothing is reported. (A refused call of the library would end the lending of the bytes.)
     fn check_not_lent(&self) -> Result<(), Fault> {
         if self.lent > 0 { Err(Fault::Unsynced) } else { Ok(()) }
     }
 
-    /// Nor is anything taken, before what there is to tell was made.
+    /// Nor is anything taken, before what there is to report was made.
     fn check_may_take(&self) -> Result<(), Fault> {
         if self.is_begun { Ok(()) } else { self.check_not_lent() }
     }
@@ -97,12 +97,12 @@ impl Library {
     fn note_all(&mut self) -> Result<(), Fault> {
         self.followed = last(self.handle.lent()).ok_or_else(bad_answers)?;
         let before = self.followed.start.saturating_sub(LENGTH);
-        self.told = last(&self.handle.lent()[..before]).ok_or_else(bad_answers)?;
+        self.report = last(&self.handle.lent()[..before]).ok_or_else(bad_answers)?;
         Ok(())
     }
 
-    /// Takes an event. While something is lent to be written, nothing is taken, unless what there is to tell of it was
-    /// made (`begin`).
+    /// Takes an event. While something is lent to be written, nothing is taken, unless what there is to report of it
+    /// was made (`begin`).
     pub(crate) fn take(&mut self, event: &Event) -> Result<(), Fault> {
         self.check_may_take()?;
         let handle = &mut self.handle;
@@ -151,25 +151,25 @@ impl Library {
         Ok(())
     }
 
-    /// Makes what `tell` would gather once all that was taken, and is lent, is on the disk. Meanwhile more may be
+    /// Makes what `gather` would gather once all that was taken, and is lent, is on the disk. Meanwhile more may be
     /// taken.
-    pub(crate) fn begin(&mut self, told: u32, most: u8) -> Result<(), Fault> {
-        done(self.handle.prepare_all(told, most))?;
+    pub(crate) fn begin(&mut self, reported: u32, most: u8) -> Result<(), Fault> {
+        done(self.handle.prepare_all(reported, most))?;
         self.is_begun = true;
         Ok(())
     }
 
-    /// Gathers what there is to tell behind the first `told` entries, all of which are on the disk, and of `most` open
-    /// instances.
-    pub(crate) fn tell(&mut self, told: u32, most: u8) -> Result<(), Fault> {
-        done(self.handle.answers_all(told, most))?;
+    /// Gathers what there is to report behind the first `reported` entries, all of which are on the disk, and of `most`
+    /// open instances.
+    pub(crate) fn gather(&mut self, reported: u32, most: u8) -> Result<(), Fault> {
+        done(self.handle.answers_all(reported, most))?;
         self.note_all()
     }
 
     /// Gathers that once more, but for what was proposed and executed.
-    pub(crate) fn tell_again(&mut self, told: u32, most: u8) -> Result<(), Fault> {
-        done(self.handle.answers(told, most))?;
-        self.told = last(self.handle.lent()).ok_or_else(bad_answers)?;
+    pub(crate) fn gather_again(&mut self, reported: u32, most: u8) -> Result<(), Fault> {
+        done(self.handle.answers(reported, most))?;
+        self.report = last(self.handle.lent()).ok_or_else(bad_answers)?;
         Ok(())
     }
 
@@ -181,8 +181,8 @@ impl Library {
     }
 
     /// What was gathered, in the bytes of a report.
-    pub(crate) fn told(&self) -> &[u8] {
-        self.handle.lent().get(self.told.clone()).unwrap_or_default()
+    pub(crate) fn report(&self) -> &[u8] {
+        self.handle.lent().get(self.report.clone()).unwrap_or_default()
     }
 
     /// What was proposed and executed by what was gathered.
@@ -222,9 +222,9 @@ impl Library {
         state.ok_or_else(bad_answers)
     }
 
-    /// Asks questions that change nothing, and tells each answer, in their order; `tell` says whether it is one. While
-    /// something isn't on the disk nothing is asked.
-    pub(crate) fn ask_all(&mut self, questions: &[Question], tell: &mut dyn FnMut(&[u8]) -> bool) -> Result<(), Fault> {
+    /// Asks questions that change nothing, and hands on each answer, in their order; `take` says whether it is one.
+    /// While something isn't on the disk nothing is asked.
+    pub(crate) fn ask_all(&mut self, questions: &[Question], take: &mut dyn FnMut(&[u8]) -> bool) -> Result<(), Fault> {
         self.check_synced()?;
         for question in questions {
             self.request.clear();
@@ -235,8 +235,8 @@ impl Library {
         // (before them may stand answers to what was asked when memory was short; behind them there is a report)
         let answers = blocks(self.handle.lent()).ok_or_else(bad_answers)?;
         let first = answers.len().checked_sub(questions.len() + 1).ok_or_else(bad_answers)?;
-        let untold = answers[first..].iter().take(questions.len()).find(|answer| !tell(answer));
-        untold.map_or(Ok(()), |answer| Err(refusal(answer)))
+        let untaken = answers[first..].iter().take(questions.len()).find(|answer| !take(answer));
+        untaken.map_or(Ok(()), |answer| Err(refusal(answer)))
     }
 
     /// The opening of the next generation, for so many replicas.
@@ -264,7 +264,7 @@ impl Library {
         match self.handle.succeed(succession) {
             Ok(checkpoint) => {
                 (self.me, self.is_anew, self.is_begun) = (succession.me, false, false);
-                (self.told, self.followed) = (0..0, 0..0);
+                (self.report, self.followed) = (0..0, 0..0);
                 Ok(checkpoint)
             }
             Err((status::MEMORY, _)) => {
@@ -327,7 +327,7 @@ fn fault(status: u8) -> Fault {
     match status {
         status::LENT | status::UNSYNCED => Fault::Unsynced,
         status::NO_REPLICA => Fault::NoReplica,
-        // (which instance is told otherwise)
+        // (which instance is reported otherwise)
         NOT_COMMITTED => Fault::Ended(unknown(status)),
         _ => Fault::of(status, None).unwrap_or_else(|| Fault::Ended(unknown(status))),
     }

@@ -35,7 +35,7 @@ use std::path::{Path, PathBuf};
 #[derive(Debug)]
 pub struct LogFile {
     path: PathBuf,
-    /// None before the log begins: then no file is there, or none that was ever told of.
+    /// None before the log begins: then no file is there, or none that was ever reported.
     file: Option<File>,
     kept: Kept,
     /// Which of the replicas that this process has opened wrote to it last.

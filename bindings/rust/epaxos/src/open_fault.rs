@@ -24,12 +24,12 @@ pub enum OpenFault {
     NoLog,
     /// It is the log of another replica, cluster or generation.
     OtherLog,
-    /// The log has fewer entries than were told ([`Setup::told`](crate::Setup::told)): it is older than what the replica has promised, as one that was put
-    /// back from a copy. The replica must not go on from it.
+    /// The log has fewer entries than were reported ([`Setup::told`](crate::Setup::told)): it is older than what the
+    /// replica has promised, as one that was put back from a copy. The replica must not go on from it.
     Forgotten {
         /// How many entries the log has.
         entries: u32,
-        /// How many were told.
+        /// How many were reported.
         told: u32,
     },
     /// The bytes are no log that can be gone on from: why, and at which byte.

@@ -19,8 +19,8 @@ pub struct OpenInstance {
     pub since: Option<u32>,
     /// How far it is led here, if it is.
     pub led: Option<Leading>,
-    /// The replica that your proposal of it names as the spared one, if it names one. A core doesn't tell it: set it for [`Patience`](crate::Patience), which then
-    /// waits for just those to which the proposal went.
+    /// The replica that your proposal of it names as the spared one, if it names one. A core doesn't report it: set it
+    /// for [`Patience`](crate::Patience), which then waits for just those to which the proposal went.
     pub spared: Option<u8>,
 }
 

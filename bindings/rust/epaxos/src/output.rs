@@ -1,11 +1,12 @@
-//! What may be sent and told.
+//! What may be sent and answered.
 #![forbid(unsafe_code)]
 
 use crate::followed::Followed;
 use crate::report::Report;
 use crate::{Executed, Frame, Instance, Leading, OpenInstance, Proposed, Receipt};
 
-/// What may be sent and told, now that what it rests on is on the disk. Each thing is told once, in the order of the entries.
+/// What may be sent and answered, now that what it rests on is on the disk. Each thing is reported once, in the order
+/// of the entries.
 ///
 /// It lives until the next call of the replica, and its parts are lent, not copied. What is dropped unused is as good as lost on its way: frames may be.
 ///
@@ -24,17 +25,17 @@ use crate::{Executed, Frame, Instance, Leading, OpenInstance, Proposed, Receipt}
 /// # Ok::<(), Box<dyn std::error::Error>>(())
 /// ```
 pub struct Output<'a> {
-    told: Report<'a>,
+    report: Report<'a>,
     followed: Followed<'a>,
 }
 
 impl<'a> Output<'a> {
-    pub(crate) fn new(told: Report<'a>, followed: Followed<'a>) -> Output<'a> {
-        Output { told, followed }
+    pub(crate) fn new(report: Report<'a>, followed: Followed<'a>) -> Output<'a> {
+        Output { report, followed }
     }
 
-    /// How many entries there are, all of which were told with this. A host that keeps the number beside the log can have a start go on
-    /// from there, and refuse a log that is older ([`Setup::told`](crate::Setup::told)).
+    /// How many entries there are, all of which were reported with this. A host that keeps the number beside the log
+    /// can have a start go on from there, and refuse a log that is older ([`Setup::told`](crate::Setup::told)).
     ///
     /// ```
     /// # fn of(output: &epaxos::Output) -> std::io::Result<()> {
@@ -42,7 +43,7 @@ impl<'a> Output<'a> {
     /// # }
     /// ```
     pub fn entries(&self) -> u32 {
-        self.told.entries
+        self.report.entries
     }
 
     /// The frames to be sent. Any of them may be lost, repeated or overtaken.
@@ -55,10 +56,10 @@ impl<'a> Output<'a> {
     /// # }
     /// ```
     pub fn frames(&self) -> impl Iterator<Item = Frame<'a>> + use<'a> {
-        self.told.frames()
+        self.report.frames()
     }
 
-    /// What clients may be told of the commands that were proposed here.
+    /// What clients may be answered to the commands that were proposed here.
     ///
     /// ```
     /// # fn of(output: &epaxos::Output, audited: &mut Vec<u8>) {
@@ -69,7 +70,7 @@ impl<'a> Output<'a> {
     /// # }
     /// ```
     pub fn receipts(&self) -> impl Iterator<Item = Receipt<'a>> + use<'a> {
-        self.told.receipts()
+        self.report.receipts()
     }
 
     /// The commands that were proposed here, each with its instance.
@@ -93,7 +94,7 @@ impl<'a> Output<'a> {
     /// # }
     /// ```
     pub fn committed(&self) -> impl ExactSizeIterator<Item = Instance> + use<'a> {
-        self.told.committed()
+        self.report.committed()
     }
 
     /// The instances that were executed, own and others', in order, with their commands and answers: for whoever keeps more than the map.
@@ -109,9 +110,9 @@ impl<'a> Output<'a> {
         self.followed.executed()
     }
 
-    /// The instances that were executed, also where it is told again by a report.
+    /// The instances that were executed, also where it is reported again.
     pub(crate) fn executed_instances(&self) -> impl Iterator<Item = Instance> + use<'a> {
-        self.told.executed()
+        self.report.executed()
     }
 
     /// The least instances that are open, in rising order, as many as [`ready_with_open`](crate::Replica::ready_with_open) was asked for.
@@ -124,7 +125,7 @@ impl<'a> Output<'a> {
     /// # }
     /// ```
     pub fn open(&self) -> impl Iterator<Item = OpenInstance> + use<'a> {
-        self.told.open()
+        self.report.open()
     }
 
     /// Those of them that are led here, and how far.
@@ -148,6 +149,6 @@ impl<'a> Output<'a> {
     /// # }
     /// ```
     pub fn is_sealed(&self) -> bool {
-        self.told.is_sealed
+        self.report.is_sealed
     }
 }

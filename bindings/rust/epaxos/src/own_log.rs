@@ -15,7 +15,7 @@ pub(crate) struct OwnLog {
     pub(crate) header: Vec<u8>,
     /// How many bytes it has.
     pub(crate) bytes: u64,
-    /// What tells the log that it was opened from, where it was.
+    /// What identifies the log that it was opened from, where it was.
     pub(crate) given: Option<u64>,
     /// The replica's number among all that this process has opened, of any cluster.
     pub(crate) opened: u64,

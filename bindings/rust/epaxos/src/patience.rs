@@ -7,8 +7,8 @@ use crate::{Cluster, Event, Fault, Instance, OpenFault, OpenInstance, Phase};
 
 /// The kind of a request that gives up.
 const GIVE_UP: u8 = 3;
-/// In place of a phase: a peer tells that the instance is committed.
-const TOLD: u8 = 4;
+/// In place of a phase: a peer reports that the instance is committed.
+const COMMITTED: u8 = 4;
 
 /// How long is waited, in the unit in which the time is handed in. Numbers are rounded down, so count in microseconds.
 ///
@@ -24,7 +24,7 @@ pub struct Waits {
     pub granularity: u32,
     /// The time-out of a peer that was never measured.
     pub initial: u32,
-    /// How long a Commit is waited for of which a peer tells.
+    /// How long a Commit is waited for which a peer reports.
     pub told: u32,
     /// Waits double up to this one.
     pub longest: u32,
@@ -40,8 +40,8 @@ impl Waits {
         Waits { granularity: 100_000, initial: 1_000_000, told: 1_500_000, longest: 20_000_000 };
 }
 
-/// Tells when to give up and when to recover, without a clock: it is handed the time, how long peers take to answer, and what is open. It is the library's
-/// proved one.
+/// Says when to give up and when to recover, without a clock: it is handed the time, how long peers take to answer, and
+/// what is open. It is the library's proved one.
 ///
 /// Any answer would be safe; it is a question of time alone. What comes in time is neither given up nor
 /// recovered while as many members are reached as it needs.
@@ -97,8 +97,8 @@ impl Patience {
     }
 
     /// An answer of this peer to an own proposal came so long after the proposal's frame was sent to it, which is after the sync. Not where that frame was sent
-    /// twice: it isn't known then which one is answered (Karn's rule). Of a peer that proposals spare, tell now and then how long a message of yours and its answer
-    /// took: else nothing is known of it.
+    /// twice: it isn't known then which one is answered (Karn's rule). Of a peer that proposals spare, report now and
+    /// then how long a message of yours and its answer took: else nothing is known of it.
     ///
     /// # Errors
     ///
@@ -155,8 +155,8 @@ impl Patience {
         done(self.handle.put_off(instance, ballot, now))
     }
 
-    /// A turn at this time, at which just these instances are open, and a peer tells that these are committed (those of them that are open are waited for as open
-    /// ones): at most 64 events that the replica is to take.
+    /// A turn at this time, at which just these instances are open, and a peer reports that these are committed (those
+    /// of them that are open are waited for as open ones): at most 64 events that the replica is to take.
     ///
     /// # Errors
     ///
@@ -172,12 +172,17 @@ impl Patience {
     /// assert!((2_000_000..=4_000_000).contains(&due));
     /// assert_eq!(patience.turn(due, &[open], &[]), Ok(vec![Event::Recover(open.instance)]));
     /// ```
-    pub fn turn(&mut self, now: u64, open: &[OpenInstance], told: &[Instance]) -> Result<Vec<Event<'static>>, Fault> {
+    pub fn turn(
+        &mut self,
+        now: u64,
+        open: &[OpenInstance],
+        committed: &[Instance],
+    ) -> Result<Vec<Event<'static>>, Fault> {
         let spared = |open: &OpenInstance| open.spared.unwrap_or(self.usual);
         let mut all: Vec<(Instance, u8, u8, u8)> =
             open.iter().map(|open| (open.instance, phase(open), answers(open), spared(open))).collect();
-        all.extend(told.iter().map(|instance| (*instance, TOLD, 0, 0)));
-        // (an open one stands before the same one that a peer tells of)
+        all.extend(committed.iter().map(|instance| (*instance, COMMITTED, 0, 0)));
+        // (an open one stands before the same one that a peer reports)
         all.sort_by_key(|(instance, phase, ..)| (instance.replica, instance.number, *phase));
         all.dedup_by_key(|(instance, ..)| *instance);
         let mut bytes = std::mem::take(&mut self.bytes);

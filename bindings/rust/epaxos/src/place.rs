@@ -22,7 +22,7 @@ pub(crate) struct Kept {
     pub(crate) header: Vec<u8>,
     /// How many bytes it has.
     pub(crate) bytes: u64,
-    /// What tells its bytes, where they were found there, and not written by a replica since.
+    /// What identifies its bytes, where they were found there, and not written by a replica since.
     pub(crate) found: Option<u64>,
 }
 

@@ -46,7 +46,7 @@ impl Question<'_> {
     }
 }
 
-/// The state that an answer tells. None where it tells none.
+/// The state that an answer has. None where it has none.
 pub(crate) fn state(answer: &[u8]) -> Option<State> {
     body(answer, STATE, State::read)
 }
@@ -70,6 +70,6 @@ pub(crate) fn refusal(answer: &[u8]) -> Option<Fault> {
 fn body<'a, T>(answer: &'a [u8], kind: u8, read: impl FnOnce(&mut Fields<'a>) -> Option<T>) -> Option<T> {
     let mut fields = Fields::new(answer);
     (fields.u8()? == kind).then_some(())?;
-    let told = read(&mut fields)?;
-    fields.is_over().then_some(told)
+    let value = read(&mut fields)?;
+    fields.is_over().then_some(value)
 }

@@ -139,7 +139,7 @@ impl<'a> Ready<'a> {
         }
     }
 
-    /// Puts the bytes on the disk, and hands out what there is to send and to tell.
+    /// Puts the bytes on the disk, and hands out what there is to send and to answer.
     ///
     /// # Errors
     ///
@@ -166,12 +166,13 @@ impl<'a> Ready<'a> {
         self.assume_synced().map_err(CommitFault::Core)
     }
 
-    /// Hands out what there is to send and to tell, on the word of the caller that the bytes are on the disk. It is for those who keep no log, or keep it
-    /// in another place than a [`Log`]. A word that isn't true breaks the promises of all replicas.
+    /// Hands out what there is to send and to answer, on the word of the caller that the bytes are on the disk. It is
+    /// for those who keep no log, or keep it in another place than a [`Log`]. A word that isn't true breaks the
+    /// promises of all replicas.
     ///
     /// # Errors
     ///
-    /// [`Fault::Memory`]: the log counts as synced, and the next `ready` tells all of it. [`Fault::Ended`].
+    /// [`Fault::Memory`]: the log counts as synced, and the next `ready` reports all of it. [`Fault::Ended`].
     ///
     /// ```
     /// # use epaxos::{Cluster, Replica};
@@ -193,7 +194,7 @@ impl<'a> Ready<'a> {
         }
     }
 
-    /// Lets go of the replica while the bytes are put on the disk, by another thread: meanwhile it takes more. What there is to send and to tell is made now,
+    /// Lets go of the replica while the bytes are put on the disk, by another thread: meanwhile it takes more. What there is to send and to answer is made now,
     /// and comes out by [`Replica::written`]. Until then [`ready`](Replica::ready) lends these bytes, and not those of what is taken.
     ///
     /// # Errors

@@ -1,15 +1,15 @@
-//! What a client may be told of its command.
+//! What a client may be answered to its command.
 #![forbid(unsafe_code)]
 
 use crate::bytes::Fields;
 use crate::{Answer, Instance};
 
-/// What a client may be told of a command that was proposed here.
+/// What a client may be answered to a command that was proposed here.
 ///
 /// ```
-/// # fn tell(_: u32, _: epaxos::Answer) {}
+/// # fn reply(_: u32, _: epaxos::Answer) {}
 /// fn answer(receipt: &epaxos::Receipt) {
-///     tell(receipt.client, receipt.answer);
+///     reply(receipt.client, receipt.answer);
 /// }
 /// ```
 #[derive(Clone, Copy, PartialEq, Eq, Hash, Debug)]
@@ -30,7 +30,8 @@ pub struct Receipt<'a> {
     pub stamp: u64,
     /// The answer.
     pub answer: Answer<'a>,
-    /// The receipt as an audit takes it (`epaxos collect --receipts`): append it to a file, if what was told is to be judged.
+    /// The receipt as an audit takes it (`epaxos collect --receipts`): append it to a file, if what was answered is to
+    /// be judged.
     pub bytes: &'a [u8],
 }
 

@@ -17,7 +17,8 @@ use std::cell::Cell;
 use std::fmt;
 use std::marker::PhantomData;
 
-/// One replica. It takes what happens, and tells what is to be done, once what it took is on the disk. See [the crate's page](crate).
+/// One replica. It takes what happens, and returns what is to be done, once what it took is on the disk. See [the
+/// crate's page](crate).
 ///
 /// Its log comes first: before [`ready`](Replica::ready) and [`commit`](Ready::commit) nothing is taken ([`Fault::Unsynced`]). In the examples here the log is a
 /// `Vec<u8>`, in memory; a program has a [`LogFile`](crate::LogFile), or a [`Log`](crate::Log) of its own.
@@ -35,13 +36,13 @@ use std::marker::PhantomData;
 /// ```
 pub struct Replica {
     library: Library,
-    /// How many entries were told.
-    told: u32,
+    /// How many entries were reported.
+    reported: u32,
     cut: u64,
     own_log: OwnLog,
     /// How many bytes it has once what is lent is written.
     end: u64,
-    /// Whether what there is to tell of that was made.
+    /// Whether what there is to report of that was made.
     is_begun: bool,
     /// How many replicas there are.
     replicas: u8,
@@ -50,7 +51,7 @@ pub struct Replica {
 
 impl fmt::Debug for Replica {
     fn fmt(&self, f: &mut fmt::Formatter) -> fmt::Result {
-        f.debug_struct("Replica").field("told", &self.told).finish_non_exhaustive()
+        f.debug_struct("Replica").field("told", &self.reported).finish_non_exhaustive()
     }
 }
 
@@ -102,7 +103,7 @@ impl Replica {
     }
 
     pub(crate) fn begun(setup: &Setup, log: Option<&[u8]>) -> Result<Replica, OpenFault> {
-        let Setup { cluster, me, opening, reference, told } = *setup;
+        let Setup { cluster, me, opening, reference, told: reported } = *setup;
         if me >= cluster.replicas() {
             return Err(OpenFault::OutOfRange);
         }
@@ -111,10 +112,10 @@ impl Replica {
             begin.check(&reference)?;
         }
         let mut library = Library::open(&begin)?;
-        let Past { told, cut } = Past::of(log, library.cut()?, told)?;
+        let Past { reported, cut } = Past::of(log, library.cut()?, reported)?;
         Ok(Replica {
             library,
-            told,
+            reported,
             cut,
             own_log: OwnLog::of(&begin),
             end: 0,
@@ -124,7 +125,8 @@ impl Replica {
         })
     }
 
-    /// How many bytes were left out behind the last whole record of the log that was opened: what a crash has left. Tell it to whoever runs the replica.
+    /// How many bytes were left out behind the last whole record of the log that was opened: what a crash has left.
+    /// Report it to whoever runs the replica.
     ///
     /// ```
     /// # use epaxos::{Cluster, Replica};
@@ -158,13 +160,14 @@ impl Replica {
         Reference::new(next, generation, self.own_log.bytes, sum)
     }
 
-    /// Goes on in the next generation, once a seal was executed here and all that was taken is on the disk and told: the replica is then that of the next one, with the map
+    /// Goes on in the next generation, once a seal was executed here and all that was taken is on the disk and reported: the replica is then that of the next one, with the map
     /// as it is, of which nothing is copied. As after [`new`](Replica::new) its log comes first, a log of its own, whose header names the reference's digest.
     /// So the map is on the disk by the reference; write the file when there is time: the [`Checkpoint`] gives it in pieces, to any thread.
     ///
     /// The order on the disk, for generation G + 1: [`Reference::bytes`] as `G+1/reference`, synced, with its folder; then this call, whose [`ready`](Replica::ready) lends the
     /// header of `G+1/log`; then the mark `G/left`, which says G + 1; and only then [`commit`](Ready::commit), or [`written`](Replica::written), by which the new
-    /// generation tells anything. The file comes later: `G+1/opening`, and once that is synced, [`Reference::binding`] as `G+1/whole`. Then what is older may go.
+    /// generation reports anything. The file comes later: `G+1/opening`, and once that is synced,
+    /// [`Reference::binding`] as `G+1/whole`. Then what is older may go.
     ///
     /// After a start the same call leads from the last whole opening through the generations since, each with its log: the replica of the first is opened with as many bytes of
     /// its log as the next reference names, which have its SHA-256 ([`Reference::is_to`]), is said to have them on the disk
@@ -207,7 +210,7 @@ impl Replica {
     /// # Ok(()) }
     /// ```
     pub fn succeed(&mut self, succession: &Succession) -> Result<Checkpoint, SucceedFault> {
-        let Succession { reference, me, log, told } = *succession;
+        let Succession { reference, me, log, told: reported } = *succession;
         let cluster = reference.cluster();
         if self.is_begun {
             return Err(SucceedFault::Unsynced);
@@ -222,18 +225,18 @@ impl Replica {
         if log.is_some_and(<[u8]>::is_empty) {
             return Err(SucceedFault::Log(OpenFault::NoLog));
         }
-        // (what a crash has left may look like a record, which the library alone tells)
-        Past::of(log, 0, told).map_err(SucceedFault::Log)?;
+        // (what a crash has left may look like a record, which the library alone knows)
+        Past::of(log, 0, reported).map_err(SucceedFault::Log)?;
         let checkpoint = Checkpoint::of(self.library.succeed(succession)?);
-        let past = self.library.cut().and_then(|cut| Past::of(log, cut, told));
+        let past = self.library.cut().and_then(|cut| Past::of(log, cut, reported));
         let past = past.inspect_err(|_| self.library.end()).map_err(SucceedFault::Log)?;
-        (self.told, self.cut) = (past.told, past.cut);
+        (self.reported, self.cut) = (past.reported, past.cut);
         (self.own_log, self.end) = (OwnLog::begun(me, reference.generation(), log), 0);
         self.replicas = cluster.replicas();
         Ok(checkpoint)
     }
 
-    /// What people are to be told of the core, or nothing: a library that isn't proved says so here.
+    /// What people are to know of the core, or nothing: a library that isn't proved says so here.
     ///
     /// ```
     /// # use epaxos::{Cluster, Replica};
@@ -245,7 +248,7 @@ impl Replica {
         SAID
     }
 
-    /// Takes an event, of which nothing is told before it is on the disk.
+    /// Takes an event, of which nothing is reported before it is on the disk.
     ///
     /// # Errors
     ///
@@ -264,8 +267,8 @@ impl Replica {
         self.library.take(event)
     }
 
-    /// Takes events, one after the other, and tells of each what came of it: what is refused changes nothing, and the next one is taken all the
-    /// same.
+    /// Takes events, one after the other, and returns of each what came of it: what is refused changes nothing, and the
+    /// next one is taken all the same.
     ///
     /// ```
     /// # let mut log = Vec::new();
@@ -280,7 +283,8 @@ impl Replica {
         events.iter().map(|event| self.take(event)).collect()
     }
 
-    /// Proposes a client's command. Its instance is told by [`Output::proposed`], and its answer by [`Output::receipts`].
+    /// Proposes a client's command. Its instance is reported by [`Output::proposed`], and its answer by
+    /// [`Output::receipts`].
     ///
     /// # Errors
     ///
@@ -366,7 +370,8 @@ impl Replica {
         self.take(&Event::GiveUp(instance))
     }
 
-    /// Takes over an instance that stays open, by explicit prepare. Safe at any time; [`Patience`](crate::Patience) tells when it is wise.
+    /// Takes over an instance that stays open, by explicit prepare. Safe at any time; [`Patience`](crate::Patience)
+    /// says when it is wise.
     ///
     /// # Errors
     ///
@@ -499,27 +504,28 @@ impl Replica {
         if std::mem::take(&mut self.is_begun) {
             self.library.release()?;
         } else {
-            self.library.tell(self.told, most)?;
+            self.library.gather(self.reported, most)?;
         }
-        let told = Report::read(self.library.told()).ok_or_else(bad_report)?;
+        let report = Report::read(self.library.report()).ok_or_else(bad_report)?;
         let followed = Followed::read(self.library.followed()).ok_or_else(bad_report)?;
-        self.told = told.entries;
-        Ok(Output::new(told, followed))
+        self.reported = report.entries;
+        Ok(Output::new(report, followed))
     }
 
     pub(crate) fn begin(&mut self, most: u8) -> Result<(), Fault> {
         if !self.is_begun {
-            self.library.begin(self.told, most)?;
+            self.library.begin(self.reported, most)?;
             self.is_begun = true;
         }
         Ok(())
     }
 
-    /// Hands out what there is to send and to tell of what [`Ready::begin`] let go of, and nothing of what was taken since.
+    /// Hands out what there is to send and to answer of what [`Ready::begin`] let go of, and nothing of what was taken
+    /// since.
     ///
     /// # Errors
     ///
-    /// [`Fault::Unsynced`]: it is of another replica, or was told before. [`Fault::Ended`].
+    /// [`Fault::Unsynced`]: it is of another replica, or was reported before. [`Fault::Ended`].
     ///
     /// ```
     /// # let mut log = Vec::new();
@@ -558,9 +564,9 @@ impl Replica {
     /// # Ok::<(), Box<dyn std::error::Error>>(())
     /// ```
     pub fn report(&mut self, after: u32, most: u8) -> Result<Output<'_>, Fault> {
-        self.library.tell_again(after, most)?;
-        let told = Report::read(self.library.told()).ok_or_else(bad_report)?;
-        Ok(Output::new(told, Followed::default()))
+        self.library.gather_again(after, most)?;
+        let report = Report::read(self.library.report()).ok_or_else(bad_report)?;
+        Ok(Output::new(report, Followed::default()))
     }
 
     /// What this replica's map has at the key, after all that was executed here: a local read, which may be old. A
@@ -643,7 +649,7 @@ impl Replica {
     /// one.handle(&frame)?;
     /// let answer = one.ready()?.commit(&mut log_of_one)?.frames().next().unwrap().bytes.to_vec();
     /// zero.handle(&answer)?;
-    /// zero.execute_all()?;                            // the put is done, as its client is told
+    /// zero.execute_all()?;                            // the put is done, as its client is answered
     /// let commit = zero.ready()?.commit(&mut log)?.frames().next().unwrap().bytes.to_vec();
     ///
     /// // A client asks replica 1 for x, which hasn't heard that the put is committed.
@@ -666,10 +672,11 @@ impl Replica {
             }
         }
         let questions: Vec<Question> = reads.iter().map(|(key, found)| Question::Read { key, found }).collect();
-        let mut told = Vec::with_capacity(reads.len());
-        self.library
-            .ask_all(&questions, &mut |answer| Reading::read(answer).map(|it| told.push(it.to_owned())).is_some())?;
-        Ok(told)
+        let mut readings = Vec::with_capacity(reads.len());
+        self.library.ask_all(&questions, &mut |answer| {
+            Reading::read(answer).map(|it| readings.push(it.to_owned())).is_some()
+        })?;
+        Ok(readings)
     }
 
     /// What all keys of this replica's map have, after all that was executed here: a local read, as [`get`](Replica::get). It takes a copy of the map.

@@ -1,4 +1,4 @@
-//! What there is to send and to tell, as the library reports it (docs/FORMATS.md, section 10).
+//! What there is to send and to answer, as the library reports it (docs/FORMATS.md, section 10).
 #![forbid(unsafe_code)]
 
 use crate::bytes::Fields;
@@ -48,7 +48,7 @@ impl<'a> Report<'a> {
         each(self.frames, read_frame)
     }
 
-    /// What clients may be told.
+    /// What clients may be answered.
     pub(crate) fn receipts(&self) -> impl Iterator<Item = Receipt<'a>> + use<'a> {
         each(self.receipts, Receipt::read)
     }
@@ -73,7 +73,7 @@ fn read_frame<'a>(fields: &mut Fields<'a>) -> Option<Frame<'a>> {
     Some(Frame { to: fields.u8()?, bytes: fields.block()? })
 }
 
-/// The bytes of so many instances as are told before them.
+/// The bytes of so many instances as are counted before them.
 fn read_instances<'a>(fields: &mut Fields<'a>) -> Option<&'a [u8]> {
     let count = fields.u32()? as usize;
     fields.run(count.checked_mul(3)?)

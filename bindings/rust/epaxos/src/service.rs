@@ -303,7 +303,7 @@ impl Service {
         replied(self.ask(|reply| Came::Call(command, reply)).wait())
     }
 
-    /// What a key has, after all that was told before anywhere. Nothing is written for it.
+    /// What a key has, after all that was answered before anywhere. Nothing is written for it.
     ///
     /// # Errors
     ///
@@ -360,12 +360,12 @@ impl Service {
     }
 
     /// Watches a key, or the keys of a prefix: what they have, and from then on each write that this replica executes,
-    /// whoever asked for it. At most `most` changes wait to be taken, of up to 65,790 bytes each: who lets more come is
-    /// told that the watch has [ended](WatchEnd::Lagged), and watches again.
+    /// whoever asked for it. At most `most` changes wait to be taken, of up to 65,790 bytes each: who lets more come
+    /// learns that the watch has [ended](WatchEnd::Lagged), and watches again.
     ///
-    /// A key is read first, so that the watch begins with all that was told before anywhere. A prefix begins with what
-    /// this replica has: what it hasn't executed yet comes as a change. Those of one key come in the same order at all
-    /// replicas; those of different keys needn't. A write of what a key has already is a change too.
+    /// A key is read first, so that the watch begins with all that was answered before anywhere. A prefix begins with
+    /// what this replica has: what it hasn't executed yet comes as a change. Those of one key come in the same order at
+    /// all replicas; those of different keys needn't. A write of what a key has already is a change too.
     ///
     /// Where the replica falls so far behind that it takes the opening of a later generation from a peer, it doesn't
     /// know by which commands the keys came to what they have: each watch [ends](WatchEnd::Skipped) there.
@@ -397,7 +397,7 @@ impl Service {
     ///
     /// Machines are named by their identities ([`Settings::identity`]; a [`Folder`] keeps one), and where they come to
     /// a link by their addresses. A machine waits once it is started by [`Start::Join`]; it says so to its peers once a
-    /// second, and [`waiting_machines`](Service::waiting_machines) tells it.
+    /// second, and [`waiting_machines`](Service::waiting_machines) lists it.
     ///
     /// # Errors
     ///
@@ -477,17 +477,17 @@ impl Service {
         self.ask(Came::Status).wait().ok_or(CallFault::Ended)
     }
 
-    /// Asks the host's thread; what it tells is waited for.
+    /// Asks the host's thread; what it answers is waited for.
     fn ask<T>(&self, what: impl FnOnce(Promise<T>) -> Came) -> Awaited<T> {
-        let (reply, told) = promise();
+        let (reply, outcome) = promise();
         // (where the host has ended the promise is dropped, which ends the wait)
         let _ = self.inbox.send(what(reply));
-        told
+        outcome
     }
 
     /// Ends it, and waits until it has ended: once what is under way is done, or after five seconds; who asks
-    /// meanwhile is [refused](Refusal::Ending). What was told stays. Dropping it ends it at once, and what waits isn't
-    /// told.
+    /// meanwhile is [refused](Refusal::Ending). What was answered stays. Dropping it ends it at once, and what waits
+    /// isn't answered.
     ///
     /// # Errors
     ///
@@ -516,9 +516,9 @@ impl Drop for Service {
     }
 }
 
-/// What somebody who called is told.
-fn answer(told: Option<Told>) -> Result<OwnedAnswer, CallFault> {
-    match told.ok_or(CallFault::Ended)? {
+/// What somebody who called is answered.
+fn answer(outcome: Option<Told>) -> Result<OwnedAnswer, CallFault> {
+    match outcome.ok_or(CallFault::Ended)? {
         Told::Done(answer) => Ok(answer),
         Told::Replied(_) => Ok(OwnedAnswer::Ordered),
         Told::DoneUnseen => Err(CallFault::DoneUnseen),
@@ -527,9 +527,9 @@ fn answer(told: Option<Told>) -> Result<OwnedAnswer, CallFault> {
     }
 }
 
-/// What somebody who had the machine do something is told.
-fn replied(told: Option<Told>) -> Result<Vec<u8>, CallFault> {
-    match told.ok_or(CallFault::Ended)? {
+/// What somebody who had the machine do something is answered.
+fn replied(outcome: Option<Told>) -> Result<Vec<u8>, CallFault> {
+    match outcome.ok_or(CallFault::Ended)? {
         Told::Replied(reply) => Ok(reply),
         Told::Done(_) | Told::DoneUnseen => Err(CallFault::DoneUnseen),
         Told::Refused(refusal) => Err(CallFault::Refused(refusal)),
@@ -551,18 +551,18 @@ fn local(
     (0..cluster.replicas()).map(begin).collect()
 }
 
-/// What somebody who read is told.
-fn value(told: Option<Told>) -> Result<Option<Vec<u8>>, CallFault> {
-    match told.ok_or(CallFault::Ended)? {
+/// What somebody who read is answered.
+fn value(outcome: Option<Told>) -> Result<Option<Vec<u8>>, CallFault> {
+    match outcome.ok_or(CallFault::Ended)? {
         Told::Value(value) => Ok(value),
         Told::Refused(refusal) => Err(CallFault::Refused(refusal)),
         _ => Err(CallFault::Doubtful),
     }
 }
 
-/// What somebody who wished something is told.
-fn changed(told: Option<Told>) -> Result<u32, CallFault> {
-    match told.ok_or(CallFault::Ended)? {
+/// What somebody who wished something is answered.
+fn changed(outcome: Option<Told>) -> Result<u32, CallFault> {
+    match outcome.ok_or(CallFault::Ended)? {
         Told::Changed(generation) => Ok(generation),
         Told::Refused(refusal) => Err(CallFault::Refused(refusal)),
         _ => Err(CallFault::Doubtful),
@@ -609,7 +609,7 @@ impl<D: Disk, L: Link, C: Clock> Driver<D, L, C> {
     fn run(mut self, came: &Receiver<Came>) -> Result<(), HostFault> {
         let done = self.serve(came);
         let workers = std::mem::take(&mut self.workers);
-        // (who waits for something is told first)
+        // (who waits for something is answered first)
         drop(self);
         workers.into_iter().for_each(|worker| _ = worker.join());
         done
@@ -662,13 +662,13 @@ impl<D: Disk, L: Link, C: Clock> Driver<D, L, C> {
                     None => self.host.read_all_here(token, now),
                 }
             }
-            Came::Status(reply) => reply.tell(self.host.status()),
+            Came::Status(reply) => reply.send(self.host.status()),
             Came::Watch(wish) => self.watch(wish, now),
             Came::Wish(wish, reply) => {
                 let token = self.wait(reply);
                 self.host.wish(token, wish, now);
             }
-            Came::Members(reply) => reply.tell((self.host.members(), self.host.waiting_machines())),
+            Came::Members(reply) => reply.send((self.host.members(), self.host.waiting_machines())),
             Came::Written(generation, digest, bytes) => self.host.opening_written(generation, &digest, bytes, now),
             Came::NotWritten(generation) => self.host.opening_failed(generation, now),
             Came::Part(generation, offset, part) => self.host.opening_read(generation, offset, part, now),
@@ -700,12 +700,12 @@ impl<D: Disk, L: Link, C: Clock> Driver<D, L, C> {
             if !receipts.is_empty() {
                 self.disk.keep_receipts(&receipts).map_err(HostFault::Disk)?;
             }
-            self.watches.all.retain(|watcher| watcher.tell(&changes));
+            self.watches.all.retain(|watcher| watcher.report(&changes));
             self.watches.all.extend(begun);
-            for Reply { token, told } in replies {
+            for Reply { token, told: outcome } in replies {
                 match self.watches.reading.remove(&token) {
-                    Some(wish) => self.begin_key(wish, told),
-                    None => _ = self.waiting.remove(&token).map(|reply| reply.tell(told)),
+                    Some(wish) => self.begin_key(wish, outcome),
+                    None => _ = self.waiting.remove(&token).map(|reply| reply.send(outcome)),
                 }
             }
             if lacks_changes {
@@ -722,7 +722,7 @@ impl<D: Disk, L: Link, C: Clock> Driver<D, L, C> {
             sent.for_each(|(to, all)| self.link.send_several(to, all));
             work.into_iter().for_each(|work| self.begin(work));
             let Some(writes) = writes else { return Ok(()) };
-            // (whatever happens then, nothing more is told: nobody knows what the disk has)
+            // (whatever happens then, nothing more is answered: nobody knows what the disk has)
             self.disk.carry_out(&writes.acts).map_err(HostFault::Disk)?;
             self.host.synced(writes.number, self.clock.now())?;
         }
@@ -740,7 +740,7 @@ impl<D: Disk, L: Link, C: Clock> Driver<D, L, C> {
         }
     }
 
-    /// Somebody wants to watch. All changes are told from here on, so that none is left out behind the begin.
+    /// Somebody wants to watch. All changes are reported from here on, so that none is left out behind the begin.
     fn watch(&mut self, wish: WatchWish, now: Instant) {
         self.host.set_tells_changes(true);
         match &wish.watched {
@@ -753,9 +753,9 @@ impl<D: Disk, L: Link, C: Clock> Driver<D, L, C> {
         }
     }
 
-    /// A key was read, which has all that was told of in earlier turns, and in this one.
-    fn begin_key(&mut self, wish: WatchWish, told: Told) {
-        match (told, &wish.watched) {
+    /// A key was read, which has all that was reported in earlier turns, and in this one.
+    fn begin_key(&mut self, wish: WatchWish, outcome: Told) {
+        match (outcome, &wish.watched) {
             (Told::Value(value), Watched::Key(key)) => {
                 let values = value.map(|value| (key.clone(), value)).into_iter().collect();
                 self.watches.all.push(wish.begin(values));
@@ -765,7 +765,7 @@ impl<D: Disk, L: Link, C: Clock> Driver<D, L, C> {
         }
     }
 
-    /// Who watches a prefix from here on. What the next turn tells of is in the map already: the disk has nothing to do
+    /// Who watches a prefix from here on. What the next turn reports is in the map already: the disk has nothing to do
     /// before that turn.
     fn begin_prefixes(&mut self) -> Vec<Watcher> {
         let wishes = std::mem::take(&mut self.watches.next);

@@ -8,7 +8,7 @@ use crate::{Cluster, OpenFault, Reference, Replica, ffi};
 /// ```
 /// use epaxos::{Cluster, Setup};
 ///
-/// // goes on from a log, and tells of all its entries once more: for a machine of one's own that keeps nothing itself
+/// // goes on from a log, and reports all its entries once more: for a machine of one's own that keeps nothing itself
 /// let setup = Setup { told: Some(0), ..Setup::new(Cluster::Three, 1) };
 /// # let mut log = setup.begin()?.ready()?.log().to_vec();
 /// let mut replica = setup.open(&log)?;
@@ -27,8 +27,8 @@ pub struct Setup<'a> {
     /// The reference that stood for the opening before that was written, where the generation was begun by one ([`Replica::succeed`]): its log names the
     /// reference's digest, and not the opening's. Only the [binding](Reference::binding) on the disk says that the two stand for one another: look there before.
     pub reference: Option<Reference>,
-    /// How many entries of the log were told before: behind them the first [`Output`](crate::Output) begins. None: all that the log has. More than the log
-    /// has are [`OpenFault::Forgotten`].
+    /// How many entries of the log were reported before: behind them the first [`Output`](crate::Output) begins. None:
+    /// all that the log has. More than the log has are [`OpenFault::Forgotten`].
     pub told: Option<u32>,
 }
 
@@ -60,7 +60,7 @@ impl<'a> Setup<'a> {
     }
 
     /// The replica that this log is of, as if it had never stopped. A crash may have left bytes behind the log's last whole record:
-    /// they are left out, and [`cut`](Replica::cut) tells how many.
+    /// they are left out, and [`cut`](Replica::cut) says how many.
     ///
     /// # Errors
     ///
@@ -78,7 +78,7 @@ impl<'a> Setup<'a> {
     }
 }
 
-/// Which replica is begun, and how, as a core is told.
+/// Which replica is begun, and how, as a core gets it.
 #[derive(Clone, Copy, Debug)]
 pub(crate) struct Begin<'a> {
     pub(crate) cluster: Cluster,
@@ -90,7 +90,7 @@ pub(crate) struct Begin<'a> {
 }
 
 impl Begin<'_> {
-    /// The generation that the opening begins, as it tells; 1 where there is none. (One that tells nothing is refused.)
+    /// The generation that the opening begins, as it says; 1 where there is none. (One that says nothing is refused.)
     pub(crate) fn generation(&self) -> u32 {
         let head = self.opening.and_then(|opening| ffi::opening_head(opening).ok());
         head.map_or(1, |head| head.generation)

@@ -6,13 +6,13 @@
 //! their disks; clusters grow and shrink. A seed gives a [`Plan`], and a plan gives the same run each time, to the
 //! byte. A plan of your own has your cluster's delays, your clients and what they ask for ([`Mix`]).
 //!
-//! A run is judged by itself: what clients were told is linearizable, key by key and register by register of the
-//! [machine](crate::host::Machine) that each replica has; nobody is told twice, and no command is done twice; in each
-//! instance all replicas execute one command, with one answer, and those of a key in one order, over all starts; an
-//! older copy of a disk is noticed; who asks a machine that reaches a majority is told within a minute, and a machine
-//! that reaches all the others is within a minute where they were; once nothing goes wrong any more, everybody is told,
-//! and all maps and all states are equal, within a bound; and where nothing goes wrong, nothing is recovered.
-//! What fails is [shrunk]: fewer troubles, fewer questions; and [leave] leaves what its disks have.
+//! A run is judged by itself: what clients were answered is linearizable, key by key and register by register of the
+//! [machine](crate::host::Machine) that each replica has; nobody is answered twice, and no command is done twice; in
+//! each instance all replicas execute one command, with one answer, and those of a key in one order, over all starts;
+//! an older copy of a disk is noticed; who asks a machine that reaches a majority is answered within a minute, and a
+//! machine that reaches all the others is within a minute where they were; once nothing goes wrong any more, everybody
+//! is answered, and all maps and all states are equal, within a bound; and where nothing goes wrong, nothing is
+//! recovered. What fails is [shrunk]: fewer troubles, fewer questions; and [leave] leaves what its disks have.
 //!
 //! A [state machine](crate::host::Machine) of your own is run by [`run_machine`]. Disks that say that something is on
 //! them and lose it ([`Plan::lying`]) are beyond what hosts promise: what notices them is counted.

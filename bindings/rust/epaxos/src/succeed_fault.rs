@@ -33,7 +33,8 @@ pub enum SucceedFault {
     LastGeneration,
     /// The reference isn't to this replica's log as it is: of another generation, or of another length.
     OtherReference,
-    /// The log can't be gone on from, as [`Setup::open`](crate::Setup::open) tells it. The replica is gone: open it again from what is on the disk.
+    /// The log can't be gone on from, as [`Setup::open`](crate::Setup::open) says it. The replica is gone: open it
+    /// again from what is on the disk.
     Log(OpenFault),
     /// There is no replica any more: an earlier call has lost it.
     NoReplica,

@@ -20,7 +20,7 @@ pub struct Succession<'a> {
     pub me: u8,
     /// The bytes of its log, as after a start; none where it is new in that generation.
     pub log: Option<&'a [u8]>,
-    /// As of [`Setup::told`](crate::Setup::told): how many entries of that log were told before.
+    /// As of [`Setup::told`](crate::Setup::told): how many entries of that log were reported before.
     pub told: Option<u32>,
 }
 

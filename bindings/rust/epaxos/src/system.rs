@@ -100,7 +100,7 @@ mod tests {
         let mut came = Vec::new();
         far.read_to_end(&mut came).unwrap();
         assert_eq!(came, vec![7; sent]);
-        // Who sends to an end that is gone is told so, and goes on.
+        // Who sends to an end that is gone learns it, and goes on.
         let near = TcpStream::connect(listener.local_addr().unwrap()).unwrap();
         drop(listener.accept().unwrap());
         while send_at_once(&near, b"x").is_ok() {

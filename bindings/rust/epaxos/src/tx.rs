@@ -31,8 +31,8 @@ pub type Tx<'a> = TxOf<&'a [u8]>;
 /// ```
 pub type OwnedTx = TxOf<Vec<u8>>;
 
-/// A command over 1 to 1,024 keys: what each of some must have, which at most 16 of them the answer tells, and what is
-/// written. If each has what is required, all is written; else nothing is. [`Command::tx`](crate::Command::tx) makes
+/// A command over 1 to 1,024 keys: what each of some must have, which at most 16 of them the answer reports, and what
+/// is written. If each has what is required, all is written; else nothing is. [`Command::tx`](crate::Command::tx) makes
 /// one; [`Tx`] and [`OwnedTx`] are this, with bytes that are lent, and with bytes of its own.
 ///
 /// ```
@@ -63,13 +63,13 @@ pub struct Item<'a> {
     pub key: &'a [u8],
     /// What it must have, a value or none, if anything is required.
     pub required: Option<Option<&'a [u8]>>,
-    /// Whether the answer tells what it had.
+    /// Whether the answer reports what it had.
     pub is_told: bool,
     /// What it gets, a value or none, if it is written.
     pub written: Option<Option<&'a [u8]>>,
 }
 
-const TOLD: u8 = 1;
+const REPORTED: u8 = 1;
 const GUARDED: u8 = 2;
 const PUT: u8 = 4;
 const DEL: u8 = 8;
@@ -82,10 +82,10 @@ impl<'a> Item<'a> {
 
     /// Appends its bytes. Its lengths are in their ranges.
     fn write(&self, out: &mut Vec<u8>) {
-        let told = if self.is_told { TOLD } else { 0 };
+        let reported = if self.is_told { REPORTED } else { 0 };
         let guarded = if self.required.is_some() { GUARDED } else { 0 };
         let written = self.written.map_or(0, |it| if it.is_some() { PUT } else { DEL });
-        out.extend([self.key.len() as u8, told | guarded | written]);
+        out.extend([self.key.len() as u8, reported | guarded | written]);
         out.extend(self.key);
         if let Some(required) = self.required {
             push_part(out, required);
@@ -97,7 +97,7 @@ impl<'a> Item<'a> {
 
     fn read(fields: &mut Fields<'a>) -> Option<Item<'a>> {
         let (length, flags) = (fields.u8()?, fields.u8()?);
-        if length == 0 || flags == 0 || flags > TOLD | GUARDED | DEL {
+        if length == 0 || flags == 0 || flags > REPORTED | GUARDED | DEL {
             return None;
         }
         let key = fields.run(length.into())?;
@@ -107,7 +107,7 @@ impl<'a> Item<'a> {
             PUT => Some(Some(read_value(fields)?)),
             _ => Some(None),
         };
-        Some(Item { key, required, is_told: flags & TOLD > 0, written })
+        Some(Item { key, required, is_told: flags & REPORTED > 0, written })
     }
 }
 
@@ -140,15 +140,15 @@ impl<B: AsRef<[u8]>> TxOf<B> {
         self.lent().each()
     }
 
-    /// The keys that it asks for, in the order in which the answer tells what they had.
+    /// The keys that it asks for, in the order in which the answer reports what they had.
     ///
     /// ```
     /// use epaxos::{Command, OwnedCommand, OwnedValues};
     ///
     /// let OwnedCommand::Tx(tx) = Command::tx().tell(b"y").tell(b"x").build()? else { unreachable!() };
     /// let values = OwnedValues::new([Some("1"), None])?;
-    /// let told: Vec<_> = tx.told().zip(values.iter()).collect();
-    /// assert_eq!(told, [(&b"x"[..], Some(&b"1"[..])), (b"y", None)]);
+    /// let reported: Vec<_> = tx.told().zip(values.iter()).collect();
+    /// assert_eq!(reported, [(&b"x"[..], Some(&b"1"[..])), (b"y", None)]);
     /// # Ok::<(), Box<dyn std::error::Error>>(())
     /// ```
     pub fn told(&self) -> impl Iterator<Item = &[u8]> {
@@ -203,16 +203,16 @@ impl<'a> Tx<'a> {
     /// ```
     pub fn read(body: &'a [u8]) -> Option<Tx<'a>> {
         let mut fields = Fields::new(body);
-        let (count, mut told, mut above): (_, _, &[u8]) = (fields.u16()?, 0, &[]);
+        let (count, mut reported, mut above): (_, _, &[u8]) = (fields.u16()?, 0, &[]);
         for _ in 0..count {
             let item = Item::read(&mut fields)?;
             if item.key <= above {
                 return None;
             }
             above = item.key;
-            told += usize::from(item.is_told);
+            reported += usize::from(item.is_told);
         }
-        let is_well = (1..=MOST_KEYS).contains(&count.into()) && told <= MOST_TOLD && body.len() <= LONGEST_TX;
+        let is_well = (1..=MOST_KEYS).contains(&count.into()) && reported <= MOST_TOLD && body.len() <= LONGEST_TX;
         (is_well && fields.is_over()).then_some(TxOf { body })
     }
 

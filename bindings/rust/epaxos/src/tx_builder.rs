@@ -64,7 +64,7 @@ impl<'a> TxBuilder<'a> {
         self.with(Item { required: Some(None), ..Item::of(key) })
     }
 
-    /// The answer tells what the key had before the command, whether that was done or not.
+    /// The answer reports what the key had before the command, whether that was done or not.
     ///
     /// ```
     /// # use epaxos::Command;
@@ -124,11 +124,11 @@ impl<'a> TxBuilder<'a> {
                 None => items.push(more),
             }
         }
-        let told = items.iter().filter(|it| it.is_told).count();
+        let reported = items.iter().filter(|it| it.is_told).count();
         match items.len() {
             0 => return Err(TxFault::NoKey),
             many if many > MOST_KEYS => return Err(TxFault::ManyKeys(many)),
-            _ if told > MOST_TOLD => return Err(TxFault::ManyTold(told)),
+            _ if reported > MOST_TOLD => return Err(TxFault::ManyTold(reported)),
             _ => {}
         }
         let tx = OwnedTx::of(&items);
@@ -215,9 +215,9 @@ mod tests {
         assert_eq!(Command::tx().require(b"x", &long).build(), Err(TxFault::LongValue(b"x".to_vec())));
 
         let keys: Vec<[u8; 2]> = (0..=MOST_KEYS as u16).map(u16::to_be_bytes).collect();
-        let tell = |count: usize| keys[..count].iter().fold(Command::tx(), |tx, key| tx.tell(key));
-        assert_eq!(items(&tell(MOST_TOLD).build().unwrap()).len(), 16);
-        assert_eq!(tell(MOST_TOLD + 1).build(), Err(TxFault::ManyTold(17)));
+        let reports = |count: usize| keys[..count].iter().fold(Command::tx(), |tx, key| tx.tell(key));
+        assert_eq!(items(&reports(MOST_TOLD).build().unwrap()).len(), 16);
+        assert_eq!(reports(MOST_TOLD + 1).build(), Err(TxFault::ManyTold(17)));
         let delete = |count: usize| keys[..count].iter().rev().fold(Command::tx(), |tx, key| tx.del(key));
         assert_eq!(items(&delete(MOST_KEYS).build().unwrap()).len(), 1_024);
         assert_eq!(delete(MOST_KEYS + 1).build(), Err(TxFault::ManyKeys(1_025)));

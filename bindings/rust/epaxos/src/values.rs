@@ -1,21 +1,21 @@
-//! What a command over many keys is told of them.
+//! What the answer to a command over many keys reports of them.
 #![forbid(unsafe_code)]
 
 use crate::bytes::{Fields, push_part, read_part};
 use crate::{LONGEST_VALUE, MOST_TOLD, OutOfRange};
 
-/// Values that are lent, as an answer tells them.
+/// Values that are lent, as an answer has them.
 ///
 /// ```
 /// use epaxos::{Answer, Values};
 ///
-/// fn told<'a>(answer: &Answer<'a>) -> Option<Values<'a>> {
+/// fn values<'a>(answer: &Answer<'a>) -> Option<Values<'a>> {
 ///     match *answer {
 ///         Answer::Done(values) | Answer::Undone(values) => Some(values),
 ///         _ => None,
 ///     }
 /// }
-/// # assert_eq!(told(&Answer::Absent), None);
+/// # assert_eq!(values(&Answer::Absent), None);
 /// ```
 pub type Values<'a> = ValuesOf<&'a [u8]>;
 

@@ -155,8 +155,8 @@ fn refusals_word_for_word() {
 
 #[test]
 fn answers_word_for_word() {
-    let told = State { generation: 2, entries: 3, used: 260, dependencies: 1_286, is_sealed: true, stamp: 7 };
-    assert_eq!(question::state(&answer("state-told")), Some(told));
+    let state = State { generation: 2, entries: 3, used: 260, dependencies: 1_286, is_sealed: true, stamp: 7 };
+    assert_eq!(question::state(&answer("state-told")), Some(state));
     assert_eq!(question::interfering(&answer("found-none")), Some(vec![]));
     assert_eq!(question::interfering(&answer("found")), Some(vec![SEVENTH, ONE]));
     for (name, reading) in [
@@ -195,15 +195,15 @@ fn answers_word_for_word() {
 #[test]
 fn the_report() {
     let (bytes, given) = (answer("report"), vector("absent"));
-    let told = Report::read(&bytes).unwrap();
-    assert_eq!((told.entries, told.is_sealed), (4, true));
-    assert_eq!(told.frames().collect::<Vec<_>>(), [Frame { to: 2, bytes: &[6, 7] }]);
-    assert_eq!(told.receipts().collect::<Vec<_>>(), [receipt(Answer::Absent, &given)]);
-    assert_eq!(told.committed().collect::<Vec<_>>(), [Instance { replica: 0, number: 7 }]);
+    let report = Report::read(&bytes).unwrap();
+    assert_eq!((report.entries, report.is_sealed), (4, true));
+    assert_eq!(report.frames().collect::<Vec<_>>(), [Frame { to: 2, bytes: &[6, 7] }]);
+    assert_eq!(report.receipts().collect::<Vec<_>>(), [receipt(Answer::Absent, &given)]);
+    assert_eq!(report.committed().collect::<Vec<_>>(), [Instance { replica: 0, number: 7 }]);
     let leading = Leading { phase: Phase::Accepting, answers: 1 };
     let open =
         OpenInstance { instance: Instance { replica: 2, number: 3 }, since: None, led: Some(leading), spared: None };
-    assert_eq!(told.open().collect::<Vec<_>>(), [open]);
+    assert_eq!(report.open().collect::<Vec<_>>(), [open]);
     for cut in 0..bytes.len() {
         assert_eq!(Report::read(&bytes[..cut]), None, "cut at {cut}");
     }
@@ -228,21 +228,21 @@ fn the_state() {
 }
 
 #[test]
-fn what_there_is_to_tell() {
+fn what_there_is_to_report() {
     let frame = hex(line(FRAMES, "4550 01 01 00 01 0000 00000001 0000000000000001 00 0001"));
     let mut answer = Vec::new();
     for part in line(REQUESTS, "0000004f 09").split_whitespace() {
         answer.extend(if part == "FRAME" { frame.clone() } else { hex(part) });
     }
-    let told = Report::read(&answer[4..]).unwrap();
-    assert_eq!((told.entries, told.is_sealed), (1, false));
-    let frames: Vec<_> = told.frames().map(|it| (it.to, it.bytes)).collect();
+    let report = Report::read(&answer[4..]).unwrap();
+    assert_eq!((report.entries, report.is_sealed), (1, false));
+    let frames: Vec<_> = report.frames().map(|it| (it.to, it.bytes)).collect();
     assert_eq!(frames, [(1, &frame[..])]);
-    assert_eq!((told.receipts().count(), told.committed().len()), (0, 0));
+    assert_eq!((report.receipts().count(), report.committed().len()), (0, 0));
     let leading = Leading { phase: Phase::Proposing, answers: 0 };
     let open =
         OpenInstance { instance: Instance { replica: 0, number: 1 }, since: Some(1), led: Some(leading), spared: None };
-    assert_eq!(told.open().collect::<Vec<_>>(), [open]);
+    assert_eq!(report.open().collect::<Vec<_>>(), [open]);
     for cut in 4..answer.len() {
         assert_eq!(Report::read(&answer[4..cut]), None);
     }
@@ -250,6 +250,6 @@ fn what_there_is_to_tell() {
     assert_eq!(Report::read(&answer[4..]), None);
 
     let nothing = hex(line(REQUESTS, "00000017 09"));
-    let told = Report::read(&nothing[4..]).unwrap();
-    assert_eq!((told.entries, told.frames().count(), told.open().count()), (1, 0, 0));
+    let report = Report::read(&nothing[4..]).unwrap();
+    assert_eq!((report.entries, report.frames().count(), report.open().count()), (1, 0, 0));
 }

@@ -24,13 +24,13 @@ fn value(random: &mut Random) -> Vec<u8> {
 fn drawn_tx(random: &mut Random) -> Owned {
     let said: Vec<_> = (0..4).map(|_| (random.below(3), random.below(2), random.below(5), value(random))).collect();
     let mut tx = Command::tx();
-    for ((required, told, written, value), key) in said.iter().zip([b"a", b"b", b"c", b"d"]) {
+    for ((required, asked, written, value), key) in said.iter().zip([b"a", b"b", b"c", b"d"]) {
         tx = match required {
             0 => tx.require_absent(key),
             1 if value.len() < 2 => tx.require(key, value),
             _ => tx,
         };
-        tx = if *told == 0 { tx.tell(key) } else { tx };
+        tx = if *asked == 0 { tx.tell(key) } else { tx };
         tx = match written {
             0 => tx.del(key),
             1 => tx.put(key, value),
@@ -103,8 +103,8 @@ fn audit(world: &World, folder: &Path) {
     }
     let report = audited(&folders);
     assert!(report.starts_with("verdict accepted\n"), "{report}");
-    let told: usize = world.seats.iter().map(|it| it.told.len()).sum();
-    assert!(report.contains(&format!("\nreceipts {told}\n")), "{report}");
+    let receipts: usize = world.seats.iter().map(|it| it.answered.len()).sum();
+    assert!(report.contains(&format!("\nreceipts {receipts}\n")), "{report}");
 }
 
 #[test]
@@ -170,7 +170,8 @@ fn a_lost_commit_comes_by_a_report() {
     assert_eq!(world.replica(2).get(b"x").unwrap(), Some(&b"1"[..]));
 }
 
-/// Commands over as many keys as can be named, with as many bytes as can be, and one that is told as much as can be.
+/// Commands over as many keys as can be named, with as many bytes as can be, and one whose answer has as much as can
+/// be.
 #[test]
 fn commands_as_large_as_can_be() {
     let value = vec![7; LONGEST_VALUE];
@@ -180,9 +181,9 @@ fn commands_as_large_as_can_be() {
     let rest = LONGEST_TX - 2 - 2 * 8 - LONGEST_VALUE;
     let long = Command::tx().put(&keys[0], &value).put(&keys[1], &value[..rest]);
     let first: Vec<_> = keys[..MOST_TOLD].iter().map(|key| Command::Put { key, value: &value }.to_owned()).collect();
-    let told = keys[..MOST_TOLD].iter().fold(Command::tx(), |tx, key| tx.tell(key));
+    let asking = keys[..MOST_TOLD].iter().fold(Command::tx(), |tx, key| tx.tell(key));
     let again = keys.iter().fold(Command::tx(), |tx, key| tx.require_absent(key).del(key));
-    let commands = [vec![all.build().unwrap(), long.build().unwrap()], first, vec![told.build().unwrap()]].concat();
+    let commands = [vec![all.build().unwrap(), long.build().unwrap()], first, vec![asking.build().unwrap()]].concat();
     let mut world = World::new(Cluster::Three, None, 31);
     for (request, command) in (1..).zip(commands.iter().chain([&again.clone().build().unwrap()])) {
         world.propose(0, 1, request, &Owned::from(command.clone()));
@@ -190,7 +191,7 @@ fn commands_as_large_as_can_be() {
         world.finish();
     }
     assert_eq!(world.check().map.len(), MOST_KEYS);
-    let replies: Vec<_> = world.seats[0].told.iter().map(|it| &it.reply).collect();
+    let replies: Vec<_> = world.seats[0].answered.iter().map(|it| &it.reply).collect();
     assert_eq!(replies[..2], [&Reply::Done(vec![]); 2]);
     assert_eq!(replies[2 + MOST_TOLD..], [&Reply::Done(vec![Some(value.clone()); 16]), &Reply::Undone(vec![])]);
 }
@@ -209,8 +210,8 @@ fn a_generation_is_closed_and_the_next_one_opened() {
     world.finish();
     let plain = world.check();
     assert!(plain.is_closed);
-    assert_eq!(world.seats[2].told.last().unwrap().reply, Reply::Closed);
-    // Who comes back from such a log serves the generation until it is told to close it.
+    assert_eq!(world.seats[2].answered.last().unwrap().reply, Reply::Closed);
+    // Who comes back from such a log serves the generation until it is asked to close it.
     for (me, torn) in [(1, &b""[..]), (2, b"torn")] {
         let log = world.seats[me].log.clone();
         world.stop(me);
@@ -221,7 +222,7 @@ fn a_generation_is_closed_and_the_next_one_opened() {
     world.propose(1, 2, 2, &Owned::Put(b"x".to_vec(), b"3".to_vec()));
     world.settle(1);
     world.finish();
-    assert_eq!(world.seats[1].told.last().unwrap().reply, Reply::Closed);
+    assert_eq!(world.seats[1].answered.last().unwrap().reply, Reply::Closed);
     for me in 0..3 {
         assert!(world.replica(me).state().unwrap().is_sealed);
     }
@@ -244,5 +245,5 @@ fn next(opening: &[u8], plain: &Plain) {
     world.stop(3);
     world.start(3, b"torn");
     world.finish();
-    assert_eq!(world.seats[4].told[0].reply, Reply::Present(b"1".to_vec()));
+    assert_eq!(world.seats[4].answered[0].reply, Reply::Present(b"1".to_vec()));
 }

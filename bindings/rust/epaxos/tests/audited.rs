@@ -1,4 +1,4 @@
-//! What the example `three` leaves can be audited, as the crate's page tells.
+//! What the example `three` leaves can be audited, as the crate's page says.
 #![forbid(unsafe_code)]
 
 mod common;

@@ -4,7 +4,7 @@
 #[path = "common/calls.rs"]
 mod calls;
 
-use calls::told;
+use calls::outcome_of;
 use epaxos::service::{Service, WatchEnd, Watched};
 use epaxos::{Cluster, OwnedAnswer, OwnedCommand};
 use std::future::Future;
@@ -43,7 +43,7 @@ fn put(value: u32) -> OwnedCommand {
 fn calls_reads_and_watches_are_futures() {
     let mut three = Service::local(Cluster::Three).unwrap();
     // (none refuses once it reaches the others)
-    three.iter().for_each(|service| assert_eq!(told(|| service.read(b"x")), Ok(None)));
+    three.iter().for_each(|service| assert_eq!(outcome_of(|| service.read(b"x")), Ok(None)));
     let watch = block_on(three[0].watch_async(Watched::Key(b"x".into()), 100)).unwrap();
     // Many are under way at once, in one thread.
     let asked: Vec<_> = (1..=50).map(|number| three[1].call_async(put(number))).collect();

@@ -8,7 +8,7 @@ mod net;
 #[path = "common/ports.rs"]
 mod ports;
 
-use calls::{raise, told};
+use calls::{outcome_of, raise};
 use epaxos::host::{Act, FolderFault, Host, Name, Refusal, Settings, StartFault, Stored, Told, Wish};
 use epaxos::service::{Disk, Folder, MemoryDisk, Service, Start, TcpLink};
 use epaxos::sim::{Plan, Trouble, What, leave, run};
@@ -75,20 +75,20 @@ fn what_notices_a_disk_that_lies_is_counted() {
     assert!(lies > 2, "{lies} of {all}");
 }
 
-/// What is given up before it was proposed isn't done, and the rest is told what became of it.
+/// What is given up before it was proposed isn't done, and the rest is answered what became of it.
 #[test]
-fn what_is_given_up_is_told_all_the_same() {
-    let (mut given_up, mut told) = (0, 0);
+fn what_is_given_up_is_answered_all_the_same() {
+    let (mut given_up, mut answered) = (0, 0);
     for seed in 1..5 {
         let plan = Plan { given_up: 1_000, troubles: Vec::new(), lost: 0, ..Plan::of_seed(seed) };
         let (seen, failure) = run(&plan);
         assert_eq!(failure, None, "seed {seed}");
-        (given_up, told) = (given_up + seen.given_up, told + seen.told);
+        (given_up, answered) = (given_up + seen.given_up, answered + seen.told);
     }
-    assert!(given_up > 20 && told > 200, "{given_up} given up, {told} told");
+    assert!(given_up > 20 && answered > 200, "{given_up} given up, {answered} answered");
 }
 
-/// Who is told to end tells first what is under way, and takes nothing more.
+/// Who is asked to end answers first what is under way, and takes nothing more.
 #[test]
 fn a_machine_ends_slowly() {
     let end = |seconds: u64| Trouble { at: seconds * 1_000_000, machine: 1, what: What::End, lasts: 500_000 };
@@ -97,7 +97,7 @@ fn a_machine_ends_slowly() {
     assert_eq!((failure, seen.ended, seen.crashes), (None, 2, 2));
 }
 
-/// A service that is stopped ends once it has told who waits, and one that reaches nobody within its patience.
+/// A service that is stopped ends once it has answered who waits, and one that reaches nobody within its patience.
 #[test]
 fn a_service_is_stopped() {
     let mut three = Service::local(Cluster::Three).unwrap();
@@ -169,7 +169,7 @@ fn who_lags_goes_through_the_logs_of_a_peer() {
     for keys in [10..40, 40..70, 70..100, 100..120] {
         done(&mut net, keys);
         net.hosts[0].wish(net.calls + 1, Wish::Seal, net.now);
-        assert!(matches!(net.told(), Told::Changed(_)));
+        assert!(matches!(net.outcome(), Told::Changed(_)));
     }
     let newest = net.hosts[0].status().generation;
     assert!(newest >= 4 && net.hosts[2].status().generation == 1, "{newest}");
@@ -245,9 +245,9 @@ fn a_map_that_is_bounded_is_filled_and_not_passed() {
     let mut net = Net::begin(&Settings { most_map: Some(1_000), ..Settings::new(Cluster::Three, 0) });
     // (with its key and five bytes more it takes 100)
     let put = |key: u8| OwnedCommand::Put { key: vec![key], value: vec![1; 94] };
-    let told: Vec<Told> = (0..9).map(|key| net.ask(put(key))).collect();
-    assert!(told[..8].iter().all(|told| *told == Told::Done(OwnedAnswer::Absent)), "{told:?}");
-    assert_eq!(told[8], Told::Refused(Refusal::MapFull));
+    let outcomes: Vec<Told> = (0..9).map(|key| net.ask(put(key))).collect();
+    assert!(outcomes[..8].iter().all(|outcome| *outcome == Told::Done(OwnedAnswer::Absent)), "{outcomes:?}");
+    assert_eq!(outcomes[8], Told::Refused(Refusal::MapFull));
     assert!(net.hosts[0].status().generation > 2);
     assert!(matches!(net.ask(OwnedCommand::Del { key: vec![0] }), Told::Done(OwnedAnswer::Present(_))));
     assert_eq!(net.ask(put(8)), Told::Done(OwnedAnswer::Absent));
@@ -259,28 +259,28 @@ fn a_map_that_is_bounded_is_filled_and_not_passed() {
     assert_eq!(net.ask(put(9)), Told::Done(OwnedAnswer::Absent));
 }
 
-/// What is here is told after all that is known to be committed, without the others.
+/// What is here is read after all that is known to be committed, without the others.
 #[test]
-fn what_is_here_is_told_without_the_others() {
+fn what_is_here_is_read_without_the_others() {
     let mut net = Net::begin(&Settings::new(Cluster::Three, 0));
     let put = |key: u8| OwnedCommand::Put { key: vec![key], value: vec![key] };
     (0..3).for_each(|key| assert_eq!(net.ask(put(key)), Told::Done(OwnedAnswer::Absent)));
-    // (the second one is told of commits with what comes next)
+    // (the second one learns of commits with what comes next)
     (0..20).for_each(|_| assert!(net.turn().is_empty()));
     net.away = Some(1);
     net.hosts[1].read_here(4, vec![2], net.now);
-    assert_eq!(net.told(), Told::Value(Some(vec![2])));
+    assert_eq!(net.outcome(), Told::Value(Some(vec![2])));
     net.hosts[1].read_all_here(5, net.now);
-    assert_eq!(net.told(), Told::All((0..3).map(|key| (vec![key], vec![key])).collect()));
-    // It isn't told what it can't know.
+    assert_eq!(net.outcome(), Told::All((0..3).map(|key| (vec![key], vec![key])).collect()));
+    // It doesn't answer what it can't know.
     assert_eq!(net.ask(OwnedCommand::Del { key: vec![0] }), Told::Done(OwnedAnswer::Present(vec![0])));
     net.hosts[1].read_here(7, vec![0], net.now);
-    assert_eq!(net.told(), Told::Value(Some(vec![0])));
+    assert_eq!(net.outcome(), Told::Value(Some(vec![0])));
     net.hosts[1].read_here(8, Vec::new(), net.now);
-    assert_eq!(net.told(), Told::Refused(Refusal::Fault(epaxos::Fault::OutOfRange)));
+    assert_eq!(net.outcome(), Told::Refused(Refusal::Fault(epaxos::Fault::OutOfRange)));
     net.hosts[1].read_here(9, vec![0], net.now);
     net.hosts[1].give_up(9, net.now);
-    assert_eq!(net.told(), Told::Refused(Refusal::GivenUp));
+    assert_eq!(net.outcome(), Told::Refused(Refusal::GivenUp));
 }
 
 /// A disk on which nothing is.
@@ -297,16 +297,16 @@ impl Stored for Empty {
 }
 
 #[test]
-fn what_is_refused_is_told_at_once() {
+fn what_is_refused_is_answered_at_once() {
     let (settings, now) = (Settings::new(Cluster::Three, 0), Instant::now());
     assert!(matches!(Host::open(&settings, &Empty, now), Err(StartFault::Folder(FolderFault::Plan(_)))));
     assert!(matches!(Host::begin(&Settings { me: 3, ..settings.clone() }, &Empty, now), Err(StartFault::OutOfRange)));
-    let told = |host: &mut Host, at| {
+    let replies = |host: &mut Host, at| {
         host.turn(at).unwrap().replies.into_iter().map(|it| (it.token, it.told)).collect::<Vec<_>>()
     };
     let mut joins = Host::join(&settings, &Empty, now).unwrap();
     joins.call(1, OwnedCommand::Get { key: b"x".into() }, now);
-    assert_eq!(told(&mut joins, now), [(1, Told::Refused(Refusal::Joining))]);
+    assert_eq!(replies(&mut joins, now), [(1, Told::Refused(Refusal::Joining))]);
     let mut host = Host::begin(&Settings { most: 1, ..settings }, &Empty, now).unwrap();
     host.call(1, OwnedCommand::Seal { value: Vec::new() }, now);
     host.read(2, Vec::new(), now);
@@ -315,14 +315,14 @@ fn what_is_refused_is_told_at_once() {
     let refused = |fault| Told::Refused(Refusal::Fault(fault));
     let out_of_range = epaxos::Fault::OutOfRange;
     assert_eq!(
-        told(&mut host, now),
+        replies(&mut host, now),
         [(1, refused(out_of_range.clone())), (2, refused(out_of_range)), (4, Told::Refused(Refusal::Full))]
     );
-    // Nobody is there: what waits is told so after a while, and is never done.
+    // Nobody is there: what waits is answered so after a while, and is never done.
     host.synced(1, now).unwrap();
-    assert_eq!(told(&mut host, now), []);
+    assert_eq!(replies(&mut host, now), []);
     let later = now + Duration::from_secs(4);
-    assert_eq!(told(&mut host, later), [(3, Told::Refused(Refusal::Alone))]);
+    assert_eq!(replies(&mut host, later), [(3, Told::Refused(Refusal::Alone))]);
 }
 
 /// Three services over TCP, each with a folder.
@@ -361,7 +361,7 @@ impl Three {
     }
 
     fn get(&self, me: usize) -> Option<Vec<u8>> {
-        told(|| self.at(me).read(b"x")).unwrap()
+        outcome_of(|| self.at(me).read(b"x")).unwrap()
     }
 }
 

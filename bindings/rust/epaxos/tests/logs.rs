@@ -148,7 +148,7 @@ fn what_a_crash_left_is_replaced() {
     assert_eq!(held, whole);
 }
 
-/// What is written and not told of isn't written twice; what was said to be there and isn't is missed.
+/// What is written and not reported isn't written twice; what was said to be there and isn't is missed.
 #[test]
 fn bytes_are_written_once_and_in_order() {
     let folder = Folder::new("order");

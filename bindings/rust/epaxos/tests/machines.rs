@@ -7,7 +7,7 @@ mod calls;
 #[path = "common/ports.rs"]
 mod ports;
 
-use calls::{PATIENCE, told, wait_for};
+use calls::{PATIENCE, outcome_of, wait_for};
 use epaxos::host::{Act, Host, Machine, Name, Ordered, Settings, StartFault, Stored};
 use epaxos::service::{CallFault, Disk, Folder, LocalNetwork, MemoryDisk, Service, Start, SystemClock, TcpLink};
 use epaxos::{Checkpoint, Cluster, OwnedAnswer, OwnedCommand};
@@ -83,7 +83,7 @@ fn number(reply: &[u8]) -> u64 {
     u64::from_be_bytes(reply.try_into().unwrap())
 }
 
-/// Asks until it is told.
+/// Asks until it is answered.
 fn apply(service: &Service, command: &OwnedCommand) -> u64 {
     let begun = Instant::now();
     loop {
@@ -112,7 +112,7 @@ impl Ledger {
             *self.0.entry(second.into()).or_default() += amount;
         }
         self.0.insert(first.into(), after);
-        // (it may have been done already, where nothing was told of it)
+        // (it may have been done already, where there was no answer)
         let had = apply(service, &pay(first, second, (amount, before)));
         assert!(had == before || had == after, "{had} of {before}");
     }
@@ -123,22 +123,22 @@ fn short(me: u8) -> Settings {
 }
 
 #[test]
-fn what_it_replies_is_told() {
+fn what_it_replies_is_returned() {
     let three = Service::local_with(Cluster::Three, Bank::default).unwrap();
-    let apply = |me: usize, command: &OwnedCommand| told(|| three[me].apply(command.clone()));
+    let apply = |me: usize, command: &OwnedCommand| outcome_of(|| three[me].apply(command.clone()));
     let replied = |me, command: &OwnedCommand| number(&apply(me, command).unwrap());
     assert_eq!(replied(0, &pay("ann", None, (5, 0))), 0);
     assert_eq!(replied(1, &pay("ann", Some("ben"), (2, 5))), 5);
     assert_eq!(replied(2, &look("ann")), 3);
     // The map is there beside it.
     let put = OwnedCommand::Put { key: b"ann".into(), value: b"x".into() };
-    assert_eq!(told(|| three[2].call(put.clone())), Ok(OwnedAnswer::Absent));
+    assert_eq!(outcome_of(|| three[2].call(put.clone())), Ok(OwnedAnswer::Absent));
     assert_eq!(replied(2, &look("ben")), 2);
-    assert_eq!(told(|| three[0].call(look("ann"))), Ok(OwnedAnswer::Ordered));
+    assert_eq!(outcome_of(|| three[0].call(look("ann"))), Ok(OwnedAnswer::Ordered));
     assert_eq!(apply(0, &OwnedCommand::Get { key: b"ann".into() }), Err(CallFault::DoneUnseen));
     let without = Service::local(Cluster::Three).unwrap();
-    assert_eq!(told(|| without[0].apply(look("ann"))), Err(CallFault::DoneUnseen));
-    assert_eq!(told(|| without[0].call(look("ann"))), Ok(OwnedAnswer::Ordered));
+    assert_eq!(outcome_of(|| without[0].apply(look("ann"))), Err(CallFault::DoneUnseen));
+    assert_eq!(outcome_of(|| without[0].call(look("ann"))), Ok(OwnedAnswer::Ordered));
 }
 
 /// A disk that is full after so many acts, in the middle of what it was given; pieces of openings are acts too.

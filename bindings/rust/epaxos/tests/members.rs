@@ -7,7 +7,7 @@ mod calls;
 #[path = "common/ports.rs"]
 mod ports;
 
-use calls::{told, wait_for};
+use calls::{outcome_of, wait_for};
 use epaxos::host::{HostFault, Identity, Refusal, Settings, Wish, WishFault};
 use epaxos::service::{CallFault, Folder, LocalNetwork, MemoryDisk, Service, Start, TcpLink};
 use epaxos::{Cluster, OwnedCommand};
@@ -20,7 +20,7 @@ fn put(service: &Service, key: &str) {
 }
 
 fn has(service: &Service, key: &str) -> bool {
-    told(|| service.read(key.as_bytes())).unwrap().is_some()
+    outcome_of(|| service.read(key.as_bytes())).unwrap().is_some()
 }
 
 fn identities(service: &Service) -> Vec<Option<Identity>> {
@@ -29,7 +29,7 @@ fn identities(service: &Service) -> Vec<Option<Identity>> {
 
 /// Asks until it is granted: who waits may not have said so yet.
 fn wish(service: &Service, wish: &Wish) -> u32 {
-    told(|| service.wish(wish.clone())).unwrap()
+    outcome_of(|| service.wish(wish.clone())).unwrap()
 }
 
 #[test]
@@ -120,7 +120,7 @@ fn a_machine_comes_at_another_address() {
     all.pop().unwrap().stop().unwrap();
     // The new one waits, and is let in at its own address.
     let new = d.start(2, &known, Start::Join);
-    let waiting = told(|| match &all[0].waiting_machines()?[..] {
+    let waiting = outcome_of(|| match &all[0].waiting_machines()?[..] {
         [(2, identity)] => Ok(*identity),
         _ => Err(CallFault::Refused(Refusal::Joining)),
     });
@@ -129,7 +129,7 @@ fn a_machine_comes_at_another_address() {
     let named = wish(&all[0], &Wish::Replace { replica: 2, identity, address, is_forced: false });
     assert!(has(&new, "x"));
     assert_eq!(new.members().unwrap()[2].address.as_ref(), Some(&d.address));
-    // Who starts again finds it, though it was told of the address before.
+    // Who starts again finds it, though it was given the address before.
     all.remove(0).stop().unwrap();
     all.remove(0).stop().unwrap();
     let again = a.start(0, &known, Start::Again);

@@ -1,4 +1,4 @@
-//! Reads that write nothing: what F + 1 replicas tell of what interferes, and what one of them is told.
+//! Reads that write nothing: what F + 1 replicas report of what interferes, and what one of them is answered.
 #![forbid(unsafe_code)]
 
 mod common;
@@ -13,7 +13,7 @@ struct Asked {
     reader: usize,
     key: usize,
     found: Vec<Instance>,
-    /// The greatest value that a client had been told of when it was asked for: by a put or by a read.
+    /// The greatest value that a client knew of when it was asked for: by a put or by a read.
     least: u32,
 }
 
@@ -23,8 +23,8 @@ struct Reads<'a> {
     /// How many are looked at.
     looks: usize,
     requests: [u32; 2],
-    /// The greatest values that clients have been told of.
-    told: [u32; 2],
+    /// The greatest values that clients know of.
+    greatest: [u32; 2],
     asked: Vec<Asked>,
     random: Random,
     /// Who hears of nobody else.
@@ -41,7 +41,7 @@ fn interfering(replica: &mut Replica, key: &[u8]) -> Result<Vec<Instance>, Fault
 
 /// A read of the key, for which these were found.
 fn read(replica: &mut Replica, key: &[u8], found: &[Instance]) -> Result<Reading, Fault> {
-    replica.read(&[(key, found)]).map(|mut told| told.swap_remove(0))
+    replica.read(&[(key, found)]).map(|mut readings| readings.swap_remove(0))
 }
 
 /// What a call answers once all is on the disk.
@@ -58,8 +58,8 @@ impl Reads<'_> {
     fn new(cluster: Cluster, looks: usize, seed: u64) -> Self {
         let world = World::new(cluster, None, seed);
         let random = Random(seed);
-        let (requests, told, asked, cut) = ([0; 2], [0; 2], Vec::new(), Vec::new());
-        Reads { world, looks, requests, told, asked, random, cut, answered: 0, waited: 0, stale: 0 }
+        let (requests, greatest, asked, cut) = ([0; 2], [0; 2], Vec::new(), Vec::new());
+        Reads { world, looks, requests, greatest, asked, random, cut, answered: 0, waited: 0, stale: 0 }
     }
 
     fn below(&mut self, end: usize) -> usize {
@@ -81,10 +81,10 @@ impl Reads<'_> {
     /// never there.)
     fn hear(&mut self, key: usize) -> bool {
         let last = self.requests[key];
-        let mut told = self.world.seats.iter().flat_map(|seat| &seat.told);
-        let answer = told.find(|it| (it.client, it.request) == (key as u32 + 1, last));
+        let mut answered = self.world.seats.iter().flat_map(|seat| &seat.answered);
+        let answer = answered.find(|it| (it.client, it.request) == (key as u32 + 1, last));
         if answer.is_some_and(|it| it.reply != Reply::Lost) {
-            self.told[key] = self.told[key].max(last);
+            self.greatest[key] = self.greatest[key].max(last);
         }
         last == 0 || answer.is_some()
     }
@@ -93,7 +93,7 @@ impl Reads<'_> {
     fn ask(&mut self) {
         let (count, key) = (self.world.seats.len(), self.below(2));
         self.hear(key);
-        let least = self.told[key];
+        let least = self.greatest[key];
         // (those that have heard least are looked at first)
         let first = self.below(count);
         let mut looked: Vec<_> = (0..count).map(|it| (first + it) % count).collect();
@@ -131,7 +131,7 @@ impl Reads<'_> {
                     assert!(value <= self.requests[key]);
                     self.stale += usize::from(value < asked.least);
                     self.answered += 1;
-                    self.told[key] = self.told[key].max(value);
+                    self.greatest[key] = self.greatest[key].max(value);
                 }
             }
         }
@@ -172,7 +172,7 @@ impl Reads<'_> {
             if waits.is_empty() {
                 return;
             }
-            // (all messages of an instance of which another one told may have been lost)
+            // (all messages of an instance of which another one reported may have been lost)
             for (me, instance) in waits {
                 let _committed = self.world.replica(me).recover(instance);
             }
@@ -188,7 +188,7 @@ fn reads_are_behind_all_that_was_answered() {
         let mut reads = Reads::new(cluster, usize::from(cluster.replicas()) / 2 + 1, 7);
         reads.play(steps);
         assert_eq!(reads.stale, 0, "of {} at {}", reads.answered, cluster.replicas());
-        let seen = (reads.answered, reads.waited, reads.told.iter().sum::<u32>());
+        let seen = (reads.answered, reads.waited, reads.greatest.iter().sum::<u32>());
         assert!(seen.0 > steps / 20 && seen.1 > 10 && seen.2 > 2, "{seen:?}");
     }
 }

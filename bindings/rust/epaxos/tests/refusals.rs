@@ -135,11 +135,11 @@ fn logs_are_refused() {
     let bad = Setup { opening: Some(b"no opening"), ..Setup::new(Cluster::Three, 0) };
     assert!(matches!(bad.begin().unwrap_err(), OpenFault::BadOpening(_)));
 
-    // an older log, of which more was told than it has
-    let told = |told| Setup { told: Some(told), ..Setup::new(Cluster::Three, 0) };
-    assert_eq!(told(3).open(&first).unwrap_err(), OpenFault::Forgotten { entries: 2, told: 3 });
-    assert_eq!(told(1).begin().unwrap_err(), OpenFault::Forgotten { entries: 0, told: 1 });
-    assert!(told(2).open(&first).is_ok() && told(0).begin().is_ok());
+    // an older log, of which more was reported than it has
+    let setup_of = |reported| Setup { told: Some(reported), ..Setup::new(Cluster::Three, 0) };
+    assert_eq!(setup_of(3).open(&first).unwrap_err(), OpenFault::Forgotten { entries: 2, told: 3 });
+    assert_eq!(setup_of(1).begin().unwrap_err(), OpenFault::Forgotten { entries: 0, told: 1 });
+    assert!(setup_of(2).open(&first).is_ok() && setup_of(0).begin().is_ok());
 }
 
 /// A log's header has the digest of what its generation opened with: the first one opens with the same, handed in or not.
@@ -205,7 +205,7 @@ fn a_log_is_begun_once() {
     let held = format!("{name} is in use: another program has it, or another LogFile of this one; end that first");
     begin(ErrorKind::WouldBlock, &held);
     open(ErrorKind::WouldBlock, &held);
-    // (nothing was told yet)
+    // (nothing was reported yet)
     drop(file);
     open(ErrorKind::NotFound, &missing);
     file = LogFile::begin(&path).unwrap();

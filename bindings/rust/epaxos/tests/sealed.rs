@@ -7,7 +7,7 @@ mod calls;
 #[path = "common/ports.rs"]
 mod ports;
 
-use calls::{PATIENCE, told, wait_for};
+use calls::{PATIENCE, outcome_of, wait_for};
 use epaxos::host::Settings;
 use epaxos::service::{CallFault, Key, MemoryDisk, Service, Start, TcpLink};
 use epaxos::{Cluster, OwnedCommand};
@@ -55,7 +55,7 @@ fn who_has_another_key_is_not_reached() {
     }
     let third = start(2, &addresses, Some(SECRET));
     put(&third, "y");
-    assert_eq!(told(|| two[1].read(b"y")), Ok(Some(b"1".into())));
+    assert_eq!(outcome_of(|| two[1].read(b"y")), Ok(Some(b"1".into())));
 }
 
 /// Passes on what comes, and turns a bit now and then: how often it did.

@@ -1,10 +1,10 @@
-//! Services inside one process: what they are asked, and what they tell.
+//! Services inside one process: what they are asked, and what they answer.
 #![forbid(unsafe_code)]
 
 #[path = "common/calls.rs"]
 mod calls;
 
-use calls::{answer, have_done, raise, told};
+use calls::{answer, have_done, outcome_of, raise};
 use epaxos::host::{Act, Name, Refusal, Settings, Stored};
 use epaxos::service::{
     CallFault, Disk, Inbox, Link, LocalLink, LocalNetwork, MemoryDisk, Service, Start, Watch, WatchEnd, Watched,
@@ -38,11 +38,11 @@ impl Links {
     /// A replica is cut off from the others, or reaches them again.
     fn set_cut(&self, replica: u8, is_cut: bool) {
         *self.cut.lock().unwrap() = is_cut.then_some(replica);
-        let tell = if is_cut { Inbox::lost } else { Inbox::opened };
+        let notify = if is_cut { Inbox::lost } else { Inbox::opened };
         let inboxes = self.inboxes.lock().unwrap();
         for (peer, inbox) in inboxes.iter().filter(|(peer, _)| **peer != replica) {
-            tell(inbox, replica);
-            tell(&inboxes[&replica], *peer);
+            notify(inbox, replica);
+            notify(&inboxes[&replica], *peer);
         }
     }
 }
@@ -91,7 +91,7 @@ fn next(watch: &Watch) -> (String, Option<String>) {
 }
 
 #[test]
-fn what_a_command_requires_and_does_not_find_is_told() {
+fn what_a_command_requires_and_does_not_find_is_reported() {
     let three = three();
     have_done(&three[0], &put("x", "1"));
     let raise = |from: &'static [u8], to: &'static [u8]| {
@@ -108,15 +108,15 @@ fn what_a_command_requires_and_does_not_find_is_told() {
     assert!(three[1].status().unwrap().used <= 2);
     let (is_done, values) = outcome(answer(&three[2], &raise(b"1", b"2")));
     assert!(is_done && values.iter().eq([Some(&b"1"[..])]));
-    assert_eq!(told(|| three[0].read(b"x")).unwrap(), Some(b"2".into()));
+    assert_eq!(outcome_of(|| three[0].read(b"x")).unwrap(), Some(b"2".into()));
 }
 
 #[test]
-fn a_key_that_is_watched_is_told_write_by_write() {
+fn a_key_that_is_watched_is_reported_write_by_write() {
     let (three, _) = short();
     raise(&three[0], "x", 1);
     let (mut last, mut begun, mut generations) = (1, None, 0);
-    let again = || told(|| three[2].watch(Watched::Key(b"x".into()), 1_000)).unwrap();
+    let again = || outcome_of(|| three[2].watch(Watched::Key(b"x".into()), 1_000)).unwrap();
     let mut watch = again();
     assert_eq!(watch.values(), [(b"x".into(), b"1".into())]);
     // Until one watch has gone through two changes of generation. (A replica that lags takes the opening of a peer:
@@ -181,7 +181,7 @@ fn a_prefix_that_is_watched_has_no_gap() {
         for (begin, service) in three.iter().enumerate() {
             let follow = move || {
                 thread::sleep(Duration::from_millis(40 * begin as u64));
-                let watch = || told(|| service.watch(Watched::Prefix(b"n/".into()), 1_000)).unwrap();
+                let watch = || outcome_of(|| service.watch(Watched::Prefix(b"n/".into()), 1_000)).unwrap();
                 let of = |(key, value): &(Vec<u8>, Vec<u8>)| {
                     let number = String::from_utf8(value.clone()).unwrap().parse().unwrap();
                     (String::from_utf8(key.clone()).unwrap(), number)
@@ -217,7 +217,7 @@ fn a_prefix_that_is_watched_has_no_gap() {
 #[test]
 fn a_watch_ends_where_too_much_waits() {
     let three = three();
-    let watch = told(|| three[0].watch(Watched::Prefix(Vec::new()), 3)).unwrap();
+    let watch = outcome_of(|| three[0].watch(Watched::Prefix(Vec::new()), 3)).unwrap();
     for number in 1..=5 {
         have_done(&three[0], &put("x", &number.to_string()));
     }
@@ -226,7 +226,7 @@ fn a_watch_ends_where_too_much_waits() {
     }
     assert_eq!(watch.next(), Err(WatchEnd::Lagged));
     assert_eq!(watch.next(), Err(WatchEnd::Lagged));
-    let again = told(|| three[0].watch(Watched::Key(b"x".into()), 3)).unwrap();
+    let again = outcome_of(|| three[0].watch(Watched::Key(b"x".into()), 3)).unwrap();
     assert_eq!(again.values(), [(b"x".into(), b"5".into())]);
     have_done(&three[1], &put("x", "6"));
     assert_eq!(next(&again), ("x".into(), Some("6".into())));
@@ -236,7 +236,7 @@ fn a_watch_ends_where_too_much_waits() {
 fn a_watch_ends_where_an_opening_is_taken() {
     let (three, links) = short();
     let (key, all) = (Watched::Key(b"x".into()), Watched::Prefix(Vec::new()));
-    let watch = |watched: &Watched| told(|| three[2].watch(watched.clone(), 1_000)).unwrap();
+    let watch = |watched: &Watched| outcome_of(|| three[2].watch(watched.clone(), 1_000)).unwrap();
     let watches = [&key, &all].map(watch);
     have_done(&three[2], &put("x", "first"));
     links.set_cut(2, true);

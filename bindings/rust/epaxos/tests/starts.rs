@@ -30,7 +30,7 @@ fn four(writes: bool) -> Net {
         assert_eq!(net.ask(put(&format!("key-{generation}"), "value")), Told::Done(OwnedAnswer::Absent));
         if generation < 4 {
             net.hosts[0].wish(net.calls + 1, Wish::Seal, net.now);
-            assert_eq!(net.told(), Told::Changed(generation + 1));
+            assert_eq!(net.outcome(), Told::Changed(generation + 1));
         }
     }
     (0..200).for_each(|_| assert!(net.turn().is_empty()));
@@ -82,14 +82,14 @@ fn contents(host: &mut Host) -> Map {
 #[test]
 fn another_log_is_refused() {
     let net = four(false);
-    let told = |generation: u32, change: &dyn Fn(&mut Vec<u8>)| {
+    let start_of = |generation: u32, change: &dyn Fn(&mut Vec<u8>)| {
         let mut disk = copy(&net.disks[0]);
         let mut bytes = disk.read(generation, Name::Log).unwrap().unwrap();
         change(&mut bytes);
         disk.carry_out(&[Act::Put { generation, name: Name::Log, bytes }]).unwrap();
         start(&mut disk, net.now).map(|host| host.generation())
     };
-    assert_eq!(told(3, &|_| ()), Ok(4));
+    assert_eq!(start_of(3, &|_| ()), Ok(4));
     for generation in 1..4 {
         let other = format!(
             "folder refused: the log of generation {generation} isn't the one that generation {} opens with",
@@ -97,20 +97,20 @@ fn another_log_is_refused() {
         );
         let length = net.disks[0].read(generation, Name::Log).unwrap().unwrap().len();
         for at in (0..length).step_by(length / 7) {
-            assert_eq!(told(generation, &|bytes| bytes[at] ^= 0x10), Err(other.clone()), "byte {at}");
+            assert_eq!(start_of(generation, &|bytes| bytes[at] ^= 0x10), Err(other.clone()), "byte {at}");
         }
         let short = format!(
             "folder refused: the log of generation {generation} is gone or cut short, and what it leaves opens \
              generation {}",
             generation + 1
         );
-        assert_eq!(told(generation, &|bytes| _ = bytes.pop()), Err(short));
+        assert_eq!(start_of(generation, &|bytes| _ = bytes.pop()), Err(short));
         let swapped = net.disks[1].read(generation, Name::Log).unwrap().unwrap();
-        assert!(told(generation, &|bytes| *bytes = swapped.clone()).is_err());
+        assert!(start_of(generation, &|bytes| *bytes = swapped.clone()).is_err());
     }
     // The log of the generation itself names what it rests on.
     let of_another = "the log of another replica, cluster or generation".to_string();
-    assert_eq!(told(4, &|bytes| bytes[20] ^= 1), Err(of_another));
+    assert_eq!(start_of(4, &|bytes| bytes[20] ^= 1), Err(of_another));
 }
 
 /// What a crash leaves at each moment of a change, and of a checkpoint.
@@ -169,7 +169,7 @@ fn an_opening_is_taken() {
     let refused = |disk: &MemoryDisk, opening: &[u8]| take(disk, opening).err().map(|fault| fault.to_string());
     let mut disk = copy(&net.disks[0]);
     let cut = "opening refused: damaged: no digest of the bytes before it at byte";
-    assert!(refused(&disk, &opening[..opening.len() - 1]).is_some_and(|told| told.starts_with(cut)));
+    assert!(refused(&disk, &opening[..opening.len() - 1]).is_some_and(|text| text.starts_with(cut)));
     let mut host = take(&disk, &opening).unwrap();
     // (nothing is on the disk yet)
     assert_eq!(start(&mut disk, net.now).unwrap().generation(), 4);
@@ -184,10 +184,10 @@ fn an_opening_is_taken() {
     again.synced(writes.number, net.now).unwrap();
     assert_eq!((again.generation(), contents(&mut again)), (1_000_004, one));
     let other = made((3, 1_000_004, 98), b"", &[0; 4]).unwrap();
-    let told = "opening refused: generation 1000004 has another one here";
-    assert_eq!(refused(&disk, &other), Some(told.into()));
+    let expected = "opening refused: generation 1000004 has another one here";
+    assert_eq!(refused(&disk, &other), Some(expected.into()));
     let earlier = made((3, 5, 98), b"", &[0; 4]).unwrap();
-    assert!(refused(&disk, &earlier).is_some_and(|told| told.contains("it is of an earlier generation")));
+    assert!(refused(&disk, &earlier).is_some_and(|text| text.contains("it is of an earlier generation")));
     let fault = Host::take(&Settings { me: 3, cluster: Cluster::Five, ..settings(0) }, &disk, &other, net.now);
     assert!(matches!(fault, Err(StartFault::Folder(FolderFault::Open(_) | FolderFault::BadOpening(..)))));
 }
@@ -228,7 +228,7 @@ fn who_observes_knows_the_map() {
         for generation in [5, 6] {
             assert_eq!(net.ask(put(&format!("away-{generation}"), "value")), Told::Done(OwnedAnswer::Absent));
             net.hosts[0].wish(net.calls + 1, Wish::Seal, net.now);
-            assert_eq!(net.told(), Told::Changed(generation));
+            assert_eq!(net.outcome(), Told::Changed(generation));
         }
         net.away = None;
         (0..4_000).for_each(|_| assert!(net.turn().is_empty()));
@@ -248,13 +248,13 @@ fn who_gives_up_knows_whether_it_was_proposed() {
     let begun = Arc::<Begun>::default();
     call(&mut net, &begun);
     assert!(begun.give_up());
-    assert_eq!(net.told(), Told::Refused(Refusal::GivenUp));
+    assert_eq!(net.outcome(), Told::Refused(Refusal::GivenUp));
     let begun = Arc::<Begun>::default();
     call(&mut net, &begun);
     assert!(net.turn().is_empty() && !begun.give_up());
-    assert_eq!(net.told(), Told::Done(OwnedAnswer::Present(b"1".into())));
+    assert_eq!(net.outcome(), Told::Done(OwnedAnswer::Present(b"1".into())));
     let begun = Arc::<Begun>::default();
     call(&mut net, &begun);
-    assert_eq!(net.told(), Told::Done(OwnedAnswer::Present(b"2".into())));
+    assert_eq!(net.outcome(), Told::Done(OwnedAnswer::Present(b"2".into())));
     assert!(!begun.give_up());
 }

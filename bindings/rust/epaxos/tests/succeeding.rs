@@ -22,8 +22,8 @@ struct Kept {
 struct Gone {
     reference: Reference,
     checkpoint: Checkpoint,
-    /// The file that `next_opening` tells.
-    told: Vec<u8>,
+    /// The file that `next_opening` returns.
+    opening: Vec<u8>,
 }
 
 /// Puts, and a seal.
@@ -45,12 +45,12 @@ fn play(world: &mut World, generation: u32) {
 fn succeed(world: &mut World, generation: u32) -> Vec<Gone> {
     let gone = world.seats.iter_mut().map(|seat| {
         let replica = seat.replica.as_mut().unwrap();
-        let told = replica.next_opening(Cluster::Three).unwrap();
+        let opening = replica.next_opening(Cluster::Three).unwrap();
         let reference = replica.reference(Cluster::Three, Sum::of(&seat.log)).unwrap();
         assert_eq!((reference.generation(), reference.length()), (generation + 1, seat.log.len() as u64));
         let checkpoint = replica.succeed(&Succession::new(reference, seat.me)).unwrap();
-        (seat.log, seat.did, seat.told, seat.entries) = (Vec::new(), Vec::new(), Vec::new(), 0);
-        Gone { reference, checkpoint, told }
+        (seat.log, seat.did, seat.answered, seat.entries) = (Vec::new(), Vec::new(), Vec::new(), 0);
+        Gone { reference, checkpoint, opening }
     });
     let gone = gone.collect();
     world.frames.clear();
@@ -103,7 +103,7 @@ fn generations_begin_in_memory() {
         let gone = succeed(&mut world, generation);
         for (me, (gone, log)) in gone.into_iter().zip(logs).enumerate() {
             assert!(gone.reference.is_to(&log));
-            let (reference, opening) = std::mem::replace(&mut begun[me], (Some(gone.reference), gone.told.clone()));
+            let (reference, opening) = std::mem::replace(&mut begun[me], (Some(gone.reference), gone.opening.clone()));
             disks[me].push(Kept { log, reference, opening });
             assert_eq!(map(world.replica(me)), plain.map);
             // the pieces are the file that `close` gives, and any thread may take them
@@ -115,7 +115,7 @@ fn generations_begin_in_memory() {
             })
             .join()
             .unwrap();
-            assert_eq!(file, gone.told);
+            assert_eq!(file, gone.opening);
             assert_eq!(binding[5..37], reference.digest());
             assert_eq!(binding[37..], file[file.len() - 32..]);
             assert_eq!(world.seats[me].log[11..], reference.digest());
@@ -178,8 +178,8 @@ fn torn(disk: &[Kept], log: &[u8]) {
     // what is seen before leaves the replica as it was
     let mut replica = again();
     assert_eq!(replica.succeed(&go_on(reference, b"")).unwrap_err(), SucceedFault::Log(OpenFault::NoLog));
-    let told = Succession { told: Some(1 << 20), ..go_on(reference, log) };
-    assert!(matches!(replica.succeed(&told), Err(SucceedFault::Log(OpenFault::Forgotten { .. }))));
+    let ahead = Succession { told: Some(1 << 20), ..go_on(reference, log) };
+    assert!(matches!(replica.succeed(&ahead), Err(SucceedFault::Log(OpenFault::Forgotten { .. }))));
     replica.succeed(&go_on(reference, log)).unwrap();
 }
 
@@ -253,6 +253,6 @@ fn pieces_are_short() {
             file.extend(piece);
             last = piece.len();
         }
-        assert_eq!((&file, last), (&gone.told, 32));
+        assert_eq!((&file, last), (&gone.opening, 32));
     }
 }

@@ -89,7 +89,7 @@ impl Name {
     }
 }
 
-/// Acts, with the number by which [`Host::synced`](super::Host::synced) is told that they are done.
+/// Acts, with the number by which [`Host::synced`](super::Host::synced) is called once they are done.
 ///
 /// ```
 /// # use epaxos::{Cluster, host::{Host, Settings}, service::MemoryDisk};

@@ -7,7 +7,7 @@ use crate::{Cluster, Command, Executed, Fault, Instance, OwnedAnswer, Proposed, 
 use std::collections::HashSet;
 
 /// A receipt, with its answer.
-pub(super) struct Told {
+pub(super) struct Receipt {
     pub(super) client: u32,
     pub(super) request: u32,
     pub(super) stamp: u64,
@@ -15,13 +15,13 @@ pub(super) struct Told {
     pub(super) answer: OwnedAnswer,
 }
 
-/// What there is to tell, now that what it rests on is on the disk.
+/// What there is to hand out, now that what it rests on is on the disk.
 #[derive(Default)]
 pub(super) struct Outcome {
     pub(super) entries: u32,
     pub(super) proposed: Vec<Proposed>,
     pub(super) frames: Vec<(u8, Vec<u8>)>,
-    pub(super) receipts: Vec<Told>,
+    pub(super) receipts: Vec<Receipt>,
     /// Their bytes.
     pub(super) bytes: Vec<u8>,
     /// What got committed.
@@ -42,7 +42,7 @@ pub(super) struct Acting {
     pub(super) length: u64,
     sums: Sums,
     sum: Box<dyn Summing>,
-    tells_executed: bool,
+    reports_executed: bool,
     /// How many bytes the map had when the generation began, and has.
     map: (u64, u64),
     /// Whom the seal names that was executed, where one was, and names some.
@@ -58,14 +58,14 @@ pub(super) fn done(generation: u32, executed: &Executed) -> Done {
 impl Acting {
     /// That of a generation which begins with a map of so many bytes.
     pub(super) fn new(replica: Replica, generation: u32, map: u64, settings: &Settings) -> Acting {
-        let (sums, tells_executed) = (settings.sums, settings.tells_executed);
+        let (sums, reports_executed) = (settings.sums, settings.tells_executed);
         let sum = (sums.begin)();
-        Acting { replica, generation, length: 0, sums, sum, tells_executed, map: (map, map), members: None }
+        Acting { replica, generation, length: 0, sums, sum, reports_executed, map: (map, map), members: None }
     }
 
-    /// The same, which tells what was executed where a machine is there to do it.
-    pub(super) fn telling(self, has_machine: bool) -> Acting {
-        Acting { tells_executed: self.tells_executed || has_machine, ..self }
+    /// The same, which reports what was executed where a machine is there to do it.
+    pub(super) fn reporting(self, has_machine: bool) -> Acting {
+        Acting { reports_executed: self.reports_executed || has_machine, ..self }
     }
 
     /// How many bytes the map had when the generation began.
@@ -85,13 +85,14 @@ impl Acting {
         Ok((!bytes.is_empty()).then_some((bytes, is_anew)))
     }
 
-    /// What was lent is on the disk. What was written is told, where that is wanted, and what was executed an observer.
+    /// What was lent is on the disk. What was written is reported, where that is wanted, and what was executed an
+    /// observer.
     pub(super) fn synced(
         &mut self,
-        tells_changes: bool,
+        reports_changes: bool,
         mut observer: Option<&mut Box<dyn Observer>>,
     ) -> Result<Outcome, Fault> {
-        let (generation, tells_executed) = (self.generation, self.tells_executed);
+        let (generation, reports_executed) = (self.generation, self.reports_executed);
         let output = self.replica.ready()?.assume_synced()?;
         let mut outcome = Outcome {
             entries: output.entries(),
@@ -114,16 +115,16 @@ impl Acting {
         for receipt in output.receipts() {
             outcome.bytes.extend(receipt.bytes);
             let (client, request, stamp, entry) = (receipt.client, receipt.request, receipt.stamp, receipt.entry);
-            outcome.receipts.push(Told { client, request, stamp, entry, answer: receipt.answer.to_owned() });
+            outcome.receipts.push(Receipt { client, request, stamp, entry, answer: receipt.answer.to_owned() });
         }
-        if tells_executed || tells_changes {
+        if reports_executed || reports_changes {
             outcome.executed = output.executed().map(|it| done(generation, &it)).collect();
         }
-        if tells_changes {
+        if reports_changes {
             let present = |key: &[u8]| Ok(self.replica.get(key)?.map(<[u8]>::to_vec));
             (outcome.changes, outcome.lacks_changes) = changes(&outcome.executed, present)?;
         }
-        if !tells_executed {
+        if !reports_executed {
             outcome.executed = Vec::new();
         }
         Ok(outcome)

@@ -1,5 +1,5 @@
 //! What the core is asked, and what comes of it.
-use super::acting::{Outcome, Told as Receipt};
+use super::acting::{Outcome, Receipt};
 use super::held::{Batch, Request};
 use super::{BETWEEN_EXECUTIONS, BETWEEN_EXECUTIONS_ASIDE, Host, HostFault, Plant};
 use crate::host::{Act, Done, KeyChange, Name, Refusal, Told};
@@ -69,7 +69,7 @@ impl Host {
                 Ok(()) => {}
                 Err(Fault::NotCommitted(other)) => {
                     self.executions.wait(instance, other);
-                    // (no frame may have told of it)
+                    // (no frame may have named it)
                     self.progress.watch.note(other, None, now);
                 }
                 Err(Fault::Memory | Fault::StampFull) => self.executions.put_back(instance),
@@ -79,7 +79,7 @@ impl Host {
         Ok(())
     }
 
-    /// What came of a request. `proposed` tells the instances of those that are proposals, in their order.
+    /// What came of a request. `proposed` has the instances of those that are proposals, in their order.
     pub(super) fn accept(
         &mut self,
         asked: (Request, Result<(), Fault>),
@@ -97,18 +97,18 @@ impl Host {
             Accepted::Held(call) => self.ids.give_back(call.client),
             Accepted::Refused(call, members, fault) => {
                 self.ids.give_back(call.client);
-                let told = Told::Refused(Refusal::Fault(fault));
-                members.iter().for_each(|held| self.tell(held.token, told.clone()));
+                let outcome = Told::Refused(Refusal::Fault(fault));
+                members.iter().for_each(|held| self.reply(held.token, outcome.clone()));
             }
         }
         Ok(())
     }
 
-    /// Who puts something is told that it was done, before it is.
+    /// Who puts something is answered that it was done, before it is.
     fn answer_early(&mut self, call: (u32, u32)) {
         let Some(waiting) = self.calls.waiting.remove(call) else { return };
         if matches!(waiting.command, OwnedCommand::Put { .. }) {
-            waiting.members.iter().for_each(|held| self.tell(held.token, Told::Done(OwnedAnswer::Absent)));
+            waiting.members.iter().for_each(|held| self.reply(held.token, Told::Done(OwnedAnswer::Absent)));
         } else {
             self.calls.waiting.insert(call, waiting);
         }
@@ -128,7 +128,7 @@ impl Host {
             self.out.receipts_of = self.progress.generation.number;
         }
         let mut replied = self.note_executed(executed);
-        self.tell_changes(changes, lacks_changes);
+        self.report_changes(changes, lacks_changes);
         for (to, frame) in frames {
             self.progress.note_own_frame(&frame, to, now);
             if self.progress.others.is_heard(to) {
@@ -139,7 +139,7 @@ impl Host {
             let [one, other, ..] = &mut receipts[..] else { return };
             std::mem::swap(&mut one.answer, &mut other.answer);
         }
-        receipts.into_iter().for_each(|receipt| self.tell_receipt(receipt, &mut replied));
+        receipts.into_iter().for_each(|receipt| self.answer_receipt(receipt, &mut replied));
         if is_sealed && !self.progress.generation.is_sealed() {
             self.progress.generation.stage = Stage::Sealed(now);
             self.note_sealed();
@@ -147,16 +147,16 @@ impl Host {
         }
     }
 
-    /// Behind a place where changes are lacking none is told in the same turn.
-    pub(super) fn tell_changes(&mut self, changes: Vec<KeyChange>, lacks_more: bool) {
+    /// Behind a place where changes are lacking none is reported in the same turn.
+    pub(super) fn report_changes(&mut self, changes: Vec<KeyChange>, lacks_more: bool) {
         if !self.out.lacks_changes {
             self.out.changes.extend(changes);
             self.out.lacks_changes = lacks_more;
         }
     }
 
-    /// What was executed: the machine does it, and whoever wants to know is told. What it replied in the instances of
-    /// this replica.
+    /// What was executed: the machine does it, and it is reported to whoever wants to know. What it replied in the
+    /// instances of this replica.
     pub(super) fn note_executed(&mut self, executed: Vec<Done>) -> BTreeMap<Instance, Vec<u8>> {
         let me = self.progress.place.replica;
         let replied = self.applying.as_mut().map(|it| it.apply(&executed, me));
@@ -166,7 +166,7 @@ impl Host {
         replied.unwrap_or_default()
     }
 
-    fn tell_receipt(&mut self, receipt: Receipt, replied: &mut BTreeMap<Instance, Vec<u8>>) {
+    fn answer_receipt(&mut self, receipt: Receipt, replied: &mut BTreeMap<Instance, Vec<u8>>) {
         let Receipt { client, request, stamp, entry, answer } = receipt;
         self.seen = self.seen.max(stamp);
         if client == self.ids.sealer() {
@@ -182,7 +182,7 @@ impl Host {
             return self.calls.hold_again(members);
         }
         if self.settings.has(Plant::ToldTwice) && entry % 64 == 0 {
-            members.iter().for_each(|held| self.tell(held.token, Told::Done(answer.clone())));
+            members.iter().for_each(|held| self.reply(held.token, Told::Done(answer.clone())));
         }
         let mut answers = answers(answer, members.len());
         if self.settings.has(Plant::ToldAnothers) {
@@ -193,7 +193,7 @@ impl Host {
                 continue;
             }
             let replied = replied.remove(&instance).map(Told::Replied);
-            self.tell(held.token, replied.unwrap_or(Told::Done(answer)));
+            self.reply(held.token, replied.unwrap_or(Told::Done(answer)));
         }
     }
 

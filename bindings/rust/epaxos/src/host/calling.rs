@@ -10,11 +10,11 @@ use std::sync::Arc;
 use std::time::Instant;
 
 impl Host {
-    /// A client asks for a command to be done. It is told under this number, once: [`Reply`].
+    /// A client asks for a command to be done. It is answered under this number, once: [`Reply`].
     ///
     /// The command is proposed as a request of its own, or with others in one command
     /// ([`Settings::together`](super::Settings::together)); and again, in another request, where it wasn't done. Who
-    /// isn't told, as the host has ended before, doesn't know whether it was done. A
+    /// isn't answered, as the host has ended before, doesn't know whether it was done. A
     /// [`Command::Seal`](crate::Command::Seal) is the host's to propose, and is refused.
     ///
     /// ```
@@ -66,15 +66,15 @@ impl Host {
             _ => None,
         };
         match refusal {
-            Some(refusal) => self.tell(held.token, Told::Refused(refusal)),
+            Some(refusal) => self.reply(held.token, Told::Refused(refusal)),
             None => self.calls.held.push_back(held),
         }
     }
 
-    /// Whoever asked under this number waits no more: a client that went away, or whose patience has ended. It is told
-    /// once all the same. What wasn't proposed yet never is, and a read is answered no more:
-    /// [`Refusal::GivenUp`]. A command that was proposed may still be done, and whoever asked is told so; where it
-    /// wasn't done it is refused, and not proposed again. Nothing comes of a wish, nor of what was told already.
+    /// Whoever asked under this number waits no more: a client that went away, or whose patience has ended. It is
+    /// answered once all the same. What wasn't proposed yet never is, and a read is answered no more:
+    /// [`Refusal::GivenUp`]. A command that was proposed may still be done, and whoever asked is answered so; where it
+    /// wasn't done it is refused, and not proposed again. Nothing comes of a wish, nor of what was answered already.
     ///
     /// ```
     /// # use epaxos::{Cluster, host::{Host, Settings}, service::MemoryDisk};
@@ -101,7 +101,7 @@ impl Host {
         let was_held = held.and_then(|place| self.calls.held.remove(place)).is_some();
         let here = self.here.iter().position(|here| here.token == token).map(|place| self.here.remove(place));
         if was_held || was_reading.get() || here.is_some() {
-            return self.tell(token, Told::Refused(Refusal::GivenUp));
+            return self.reply(token, Told::Refused(Refusal::GivenUp));
         }
         // (what the core has taken and isn't on the disk is proposed too)
         let taken = self.busy.iter_mut().flat_map(|busy| &mut busy.requests);
@@ -113,12 +113,12 @@ impl Host {
         let is_proposed = proposed.next().map(|held| held.is_given_up = true).is_some();
         drop(proposed);
         if is_proposed && self.settings.has(super::Plant::GivesUpProposed) {
-            self.tell(token, Told::Refused(Refusal::GivenUp));
+            self.reply(token, Told::Refused(Refusal::GivenUp));
         }
     }
 
-    pub(super) fn tell(&mut self, token: u64, told: Told) {
-        self.out.replies.push(Reply { token, told });
+    pub(super) fn reply(&mut self, token: u64, outcome: Told) {
+        self.out.replies.push(Reply { token, told: outcome });
     }
 
     /// What is to be asked now.
@@ -135,11 +135,11 @@ impl Host {
         let Released { wholes, refused, is_alone } = self.calls.release(&mut self.progress, now);
         for (held, why) in refused {
             let why = if held.is_given_up() { Refusal::GivenUp } else { why.into() };
-            self.tell(held.token, Told::Refused(why));
+            self.reply(held.token, Told::Refused(why));
         }
         if is_alone {
             for token in self.reads.take() {
-                self.tell(token, Told::Refused(Refusal::Alone));
+                self.reply(token, Told::Refused(Refusal::Alone));
             }
         }
         wholes.into_iter().for_each(|whole| self.propose(whole, batch, now));

@@ -125,8 +125,8 @@ impl Host {
             self.note_sealed();
         }
         for (token, granted) in self.wishes.fulfil(number, &self.named) {
-            let told = granted.map_or_else(|fault| Told::Refused(Refusal::Wish(fault)), |()| Told::Changed(number));
-            self.tell(token, told);
+            let outcome = granted.map_or_else(|fault| Told::Refused(Refusal::Wish(fault)), |()| Told::Changed(number));
+            self.reply(token, outcome);
         }
         self.progress.generation.is_asked |= !self.wishes.is_empty();
         self.greet_all();
@@ -207,19 +207,19 @@ impl Host {
         let next = Next { replicas: opening.replicas.into(), members };
         let before = self.progress.generation.number;
         for (fate, Waiting { members, .. }) in self.calls.settle(&opening, before) {
-            let told = match fate {
+            let outcome = match fate {
                 _ if self.settings.has(Plant::TakenTwice) => None,
                 Fate::Undone => None,
                 Fate::Unseen => Some(Told::DoneUnseen),
                 Fate::Doubtful => Some(Told::Doubtful),
             };
-            match told {
+            match outcome {
                 None => self.calls.held.extend(members),
-                Some(told) => members.iter().for_each(|held| self.tell(held.token, told.clone())),
+                Some(outcome) => members.iter().for_each(|held| self.reply(held.token, outcome.clone())),
             }
         }
         let acting = Acting::new(replica, generation, opening.map, &self.settings);
-        let mut acting = acting.telling(self.applying.is_some());
+        let mut acting = acting.reporting(self.applying.is_some());
         let log = acting.lend()?.map(|(bytes, _)| Host::put(generation, Name::Log, bytes));
         let length = bytes.len() as u64;
         // (the opening last: before it is there, the generation isn't)
@@ -232,7 +232,7 @@ impl Host {
         self.acting = Some(acting);
         self.changes_since = Some(now);
         // (what it has beyond what was executed here isn't known by command)
-        self.tell_changes(Vec::new(), self.tells_changes);
+        self.report_changes(Vec::new(), self.reports_changes);
         (self.counts.changes, self.counts.taken) = (self.counts.changes + 1, self.counts.taken + 1);
         self.write(Vec::new(), Vec::new(), (true, Some(Change::Taken(length, next))));
         Ok(())

@@ -7,7 +7,7 @@ impl Host {
     /// The host is to end. Nothing more is begun: what is asked from now on is refused, and so are calls that weren't
     /// proposed yet, or would have to be proposed again, and wishes: [`Refusal::Ending`]. What is under way goes on,
     /// by turns as before, until [`is_ended`](Host::is_ended). Who is out of patience drops the host before; nothing
-    /// that was told is lost then, and who isn't told doesn't know whether it was done.
+    /// that was answered is lost then, and who isn't answered doesn't know whether it was done.
     ///
     /// ```
     /// # use epaxos::{Cluster, host::{Host, Settings}, service::MemoryDisk};
@@ -20,7 +20,7 @@ impl Host {
     /// let mut host = Host::begin(&Settings::new(Cluster::Three, 0), &MemoryDisk::default(), now)?;
     /// host.call(7, OwnedCommand::Del { key: b"x".into() }, now);
     /// host.end(now);
-    /// assert!(!host.is_ended()); // there is somebody to be told
+    /// assert!(!host.is_ended()); // there is somebody to be answered
     /// assert_eq!(host.turn(now)?.replies, [Reply { token: 7, told: Told::Refused(Refusal::Ending) }]);
     /// assert!(host.is_ended());
     /// # Ok(()) }
@@ -30,11 +30,11 @@ impl Host {
         self.ends = true;
         self.refuse_held();
         for (token, _) in self.wishes.take().collect::<Vec<_>>() {
-            self.tell(token, Told::Refused(Refusal::Ending));
+            self.reply(token, Told::Refused(Refusal::Ending));
         }
     }
 
-    /// Whether it was told to [end](Host::end), and all who asked were told.
+    /// Whether it was asked to [end](Host::end), and all who asked were answered.
     ///
     /// ```
     /// # use epaxos::{Cluster, host::{Host, Settings}, service::MemoryDisk};
@@ -57,7 +57,7 @@ impl Host {
     /// Calls that aren't proposed aren't done.
     pub(super) fn refuse_held(&mut self) {
         for held in std::mem::take(&mut self.calls.held) {
-            self.tell(held.token, Told::Refused(Refusal::Ending));
+            self.reply(held.token, Told::Refused(Refusal::Ending));
         }
     }
 }

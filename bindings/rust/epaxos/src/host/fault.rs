@@ -79,7 +79,7 @@ impl From<PlanFault> for StartFault {
     }
 }
 
-/// Why a host has ended. It is of no use any more, and what waits isn't told.
+/// Why a host has ended. It is of no use any more, and what waits isn't answered.
 ///
 /// ```
 /// use epaxos::host::HostFault;
@@ -97,7 +97,7 @@ pub enum HostFault {
     Forgotten {
         /// The peer.
         peer: u8,
-        /// The generation that it tells of.
+        /// The generation that it is about.
         generation: u32,
         /// The entry of this replica that it has seen there.
         seen: u32,
@@ -110,7 +110,7 @@ pub enum HostFault {
     Succeed(SucceedFault),
     /// It doesn't begin by an opening.
     Open(OpenFault),
-    /// The host was told of something that it hadn't asked for.
+    /// The host was notified of something that it hadn't asked for.
     NotAsked,
     /// The disk refuses what it was given: nobody knows what it has.
     Disk(io::Error),

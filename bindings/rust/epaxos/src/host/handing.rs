@@ -12,22 +12,22 @@ const HANDING: Duration = Duration::from_secs(1);
 const LONG_LOGS: u64 = 4 << 20;
 const PARTS_OF_LOGS: u64 = 2;
 
-/// A peer is told that what it handed is still needed, so often.
+/// A peer is notified that what it handed is still needed, so often.
 const BETWEEN_WORDS: Duration = Duration::from_millis(250);
 
 /// What a peer has handed, and is being gone through.
 pub(super) struct Going {
     from: u8,
     generation: u32,
-    /// What tells the peer that it is still needed, and when it was told last.
+    /// What notifies the peer that it is still needed, and when it was sent last.
     word: Vec<u8>,
-    told: Instant,
+    sent_at: Instant,
 }
 
 impl Going {
-    /// When the peer is to be told again.
+    /// When the peer is to be notified again.
     pub(super) fn due(&self) -> Instant {
-        self.told + BETWEEN_WORDS
+        self.sent_at + BETWEEN_WORDS
     }
 }
 
@@ -306,10 +306,10 @@ impl Host {
         }
     }
 
-    /// Tells the peer now and then that what it has handed is still needed.
+    /// Notifies the peer now and then that what it has handed is still needed.
     pub(super) fn say_going(&mut self, now: Instant) {
         let Some(going) = self.going.as_mut().filter(|going| now >= going.due()) else { return };
-        going.told = now;
+        going.sent_at = now;
         let (from, word) = (going.from, going.word.clone());
         self.send(from, word);
     }
@@ -327,7 +327,7 @@ impl Host {
                 }
                 let word = fetch.word().write();
                 self.send(from, word.clone());
-                self.going = Some(Going { from, generation, word, told: now });
+                self.going = Some(Going { from, generation, word, sent_at: now });
                 let trail = Trail::of(from, fetch.into_sink(), self.settings.sums);
                 self.out.work.push(Work::Follow { generation, trail });
             }

@@ -1,4 +1,4 @@
-//! What peers send: frames for the core, and what their hosts tell.
+//! What peers send: frames for the core, and what their hosts report.
 use super::{Host, HostFault, Plant};
 use crate::parts::commits::Committed;
 use crate::parts::frames::Head;
@@ -15,14 +15,14 @@ impl Host {
         }
     }
 
-    /// Tells a peer what is committed here, so that both get what they lack.
-    pub(super) fn tell_commits(&mut self, peer: u8) {
+    /// Sends a peer what is committed here, so that both get what they lack.
+    pub(super) fn send_commits(&mut self, peer: u8) {
         if self.progress.is_reached(peer) && self.acting.is_some() {
             self.send(peer, self.progress.committed());
         }
     }
 
-    /// Tells a peer that lags, now and then.
+    /// Notifies a peer that lags, now and then.
     fn greet_late(&mut self, peer: u8, now: Instant) {
         if self.progress.others.is_word_due(peer, now) {
             self.say_hello(peer);
@@ -69,7 +69,7 @@ impl Host {
                     self.hear_hello(from, (generation, is_sealed, seen), now)?;
                 }
                 Message::Ask { generation, question, keys } => {
-                    self.tell_interfering(from, (generation, question), &keys)?;
+                    self.send_interfering(from, (generation, question), &keys)?;
                 }
                 Message::Committed { generation, committed } if generation == self.progress.generation.number => {
                     self.hear_commits(from, &committed, now)?;
@@ -92,7 +92,7 @@ impl Host {
         }
     }
 
-    /// A peer tells how far it is, and what it has seen of this replica.
+    /// A peer reports how far it is, and what it has seen of this replica.
     fn hear_hello(
         &mut self,
         peer: u8,
@@ -106,23 +106,23 @@ impl Host {
         }
         if self.progress.hear_hello(peer, (generation, is_sealed, seen)) {
             self.say_hello(peer);
-            self.tell_commits(peer);
+            self.send_commits(peer);
         }
         let own = self.progress.generation.number;
         if generation < own {
             self.greet_late(peer, now);
         }
-        if let Some(told) = &mut self.joins
+        if let Some(generations) = &mut self.joins
             && generation > 0
             && self.settings.identity.is_none()
         {
-            told.entry(peer).or_insert(generation);
+            generations.entry(peer).or_insert(generation);
             let majority = self.progress.place.replicas / 2 + 1;
-            if told.len() >= majority && self.least == 0 {
+            if generations.len() >= majority && self.least == 0 {
                 // (the machine before was in none after the one that follows these: a seal of that would be known to
                 // one of them)
                 let early = self.settings.has(Plant::JoinsEarly);
-                self.least = told.values().max().copied().unwrap_or(0) + if early { 0 } else { 2 };
+                self.least = generations.values().max().copied().unwrap_or(0) + if early { 0 } else { 2 };
             }
         }
         // (a machine that joins waits for a later generation)
@@ -130,7 +130,7 @@ impl Host {
         Ok(())
     }
 
-    /// A peer has told what is committed there.
+    /// A peer has reported what is committed there.
     fn hear_commits(&mut self, from: u8, there: &Committed, now: Instant) -> Result<(), HostFault> {
         let Some(acting) = self.acting.as_mut().filter(|_| !self.settings.has(Plant::NoCommitsAgain)) else {
             return Ok(());

@@ -24,13 +24,13 @@ pub struct KeyChange {
     pub value: Option<Vec<u8>>,
     /// The generation of the command,
     pub generation: u32,
-    /// and its instance there. The two are the same at all replicas: they tell whether one seen at another replica is
+    /// and its instance there. The two are the same at all replicas: they show whether one seen at another replica is
     /// this one.
     pub instance: Instance,
 }
 
 /// What was written by what was executed, in its order; and whether something is lacking behind that, as it isn't
-/// known. `present` tells what a key has after all of it.
+/// known. `present` returns what a key has after all of it.
 pub(super) fn changes(
     executed: &[Done],
     mut present: impl FnMut(&[u8]) -> Result<Option<Vec<u8>>, Fault>,
@@ -79,7 +79,7 @@ fn value_after(
     for done in &executed[place + 1..] {
         let Some(command) = done.command.as_ref().map(|it| it.lent()) else { continue };
         let answer = done.answer.lent();
-        let told = |value: Option<&[u8]>| Ok(Some(value.map(<[u8]>::to_vec)));
+        let found = |value: Option<&[u8]>| Ok(Some(value.map(<[u8]>::to_vec)));
         match (command, answer) {
             (_, Answer::Lost | Answer::Closed) => {}
             (
@@ -89,7 +89,7 @@ fn value_after(
                 | Command::Cas { key: it, .. }
                 | Command::Swap { first: it, .. },
                 had,
-            ) if it == key => return told(had.value()),
+            ) if it == key => return found(had.value()),
             // (what the second had is what the first has then)
             (Command::Swap { first, second }, _) if second == key => key = first.to_vec(),
             (Command::Tx(tx), Answer::Done(values) | Answer::Undone(values)) => {
@@ -98,8 +98,8 @@ fn value_after(
                 let before =
                     tx.items().take_while(|item| item.key < key.as_slice()).filter(|item| item.is_told).count();
                 match (item.is_told, item.required, item.written) {
-                    (true, ..) => return told(values.get(before).flatten()),
-                    (_, Some(required), _) if is_done => return told(required),
+                    (true, ..) => return found(values.get(before).flatten()),
+                    (_, Some(required), _) if is_done => return found(required),
                     (_, _, Some(_)) if is_done => return Ok(None),
                     _ => {}
                 }

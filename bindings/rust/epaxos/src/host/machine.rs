@@ -54,7 +54,7 @@ use std::io;
 /// # Ok(()) }
 /// ```
 pub trait Machine: Send + 'static {
-    /// Does a command: what it replies, which whoever asked is told.
+    /// Does a command: what it replies, which goes to whoever asked.
     fn apply(&mut self, ordered: &Ordered) -> Vec<u8>;
 
     /// Its state, as it is once a generation has ended: it is kept beside what the next one opens with, and handed to

@@ -45,7 +45,7 @@ pub(super) fn cluster_of(members: &Members) -> Option<Cluster> {
 
 impl Host {
     /// Somebody who runs the cluster wishes the next generation to be another one: a machine that waits takes the place
-    /// of one that is gone, or there are 3, 5 or 7 replicas from then on. It is told under this number, once:
+    /// of one that is gone, or there are 3, 5 or 7 replicas from then on. It is answered under this number, once:
     /// [`Told::Changed`], when a generation has begun in which it is so, or [`Told::Refused`].
     ///
     /// It is granted only where majorities are reached of the present generation, and of the next one. Machines are
@@ -72,26 +72,26 @@ impl Host {
         self.due = self.due.min(now);
         self.forget_gone(now);
         if self.acting.is_none() {
-            return self.tell(token, Told::Refused(Refusal::Joining));
+            return self.reply(token, Told::Refused(Refusal::Joining));
         }
         if self.has_left() || self.ends {
             let why = if self.ends { Refusal::Ending } else { Refusal::Left };
-            return self.tell(token, Told::Refused(why));
+            return self.reply(token, Told::Refused(why));
         }
         if self.settings.identity.is_none() && wish != Wish::Seal {
-            return self.tell(token, Told::Refused(Refusal::Fault(crate::Fault::OutOfRange)));
+            return self.reply(token, Told::Refused(Refusal::Fault(crate::Fault::OutOfRange)));
         }
         match self.wishes.change(wish, self) {
             Ok(Some(change)) => {
                 self.progress.generation.is_asked = true;
                 self.wishes.ask(self.progress.generation.number, change, token);
             }
-            Ok(None) => self.tell(token, Told::Changed(self.progress.generation.number)),
-            Err(fault) => self.tell(token, Told::Refused(Refusal::Wish(fault))),
+            Ok(None) => self.reply(token, Told::Changed(self.progress.generation.number)),
+            Err(fault) => self.reply(token, Told::Refused(Refusal::Wish(fault))),
         }
     }
 
-    /// Whether a wish would be granted now, and isn't so by now: what [`wish`](Host::wish) would be told at once is
+    /// Whether a wish would be granted now, and isn't so by now: what [`wish`](Host::wish) would be answered at once is
     /// `Ok(false)`, or the refusal.
     ///
     /// # Errors
@@ -128,7 +128,7 @@ impl Host {
     }
 
     /// A machine of this identity waits to be let in under this number, as whoever carries frames has heard before
-    /// there is a link to it. It is one that waits for some seconds, and is to be told of again and again.
+    /// there is a link to it. It is one that waits for some seconds, and is to be named again and again.
     ///
     /// ```
     /// # use epaxos::{Cluster, host::{Host, Settings}, service::MemoryDisk};
@@ -185,13 +185,13 @@ impl Host {
         self.outside.retain(|_, since| now < *since + WAITS);
     }
 
-    /// A peer tells which machine it is.
+    /// A peer says which machine it is.
     pub(super) fn hear_machine(&mut self, from: u8, (identity, waits): (Identity, bool), now: Instant) {
         if waits {
             // (what was heard before was another machine's)
             self.progress.others.forget(from);
             self.note_waiting(from, identity, now);
-            // (two machines that wait have nothing to tell one another: they would answer without end)
+            // (two machines that wait have nothing to say to one another: they would answer without end)
             if self.acting.is_some() {
                 self.say_hello(from);
             }
@@ -205,14 +205,14 @@ impl Host {
         }
     }
 
-    /// What a seal that this replica proposes says. Who has wished what can't be granted any more is told so.
+    /// What a seal that this replica proposes says. Who has wished what can't be granted any more is answered so.
     pub(super) fn seal_value(&mut self) -> Option<Vec<u8>> {
         let mut wishes: Wishes<u64> = std::mem::take(&mut self.wishes);
         let was_asked = !wishes.is_empty();
         let dropped = wishes.drop_unfit(self);
         self.wishes = wishes;
         for (token, fault) in dropped {
-            self.tell(token, Told::Refused(Refusal::Wish(fault)));
+            self.reply(token, Told::Refused(Refusal::Wish(fault)));
         }
         if was_asked && self.wishes.is_empty() {
             self.progress.generation.is_asked = false;
@@ -239,7 +239,7 @@ impl Host {
         let held = waiting.chain(std::mem::take(&mut self.calls.held)).map(|held| held.token);
         let wishes: Vec<u64> = self.wishes.take().map(|(token, _)| token).collect();
         let all: Vec<u64> = held.chain(self.reads.take()).chain(wishes).collect();
-        all.into_iter().for_each(|token| self.tell(token, Told::Refused(Refusal::Left)));
+        all.into_iter().for_each(|token| self.reply(token, Told::Refused(Refusal::Left)));
     }
 
     /// Whether this machine may act in a generation of these members.
@@ -286,7 +286,7 @@ impl Host {
             .unwrap_or(self.settings.cluster)
     }
 
-    /// Tells a peer how far this host is, or which machine it is that waits.
+    /// Reports to a peer how far this host is, or which machine it is that waits.
     pub(super) fn say_hello(&mut self, peer: u8) {
         match self.settings.identity.filter(|_| self.acting.is_none()) {
             Some(identity) => self.send(peer, Message::Machine { identity, waits: true }.write()),
@@ -300,6 +300,6 @@ impl Host {
             self.send(peer, Message::Machine { identity, waits: false }.write());
         }
         self.say_hello(peer);
-        self.tell_commits(peer);
+        self.send_commits(peer);
     }
 }

@@ -23,21 +23,21 @@ pub enum Plant {
     WrongOpening,
     /// A read asks one replica fewer than it has to.
     ReadFewer,
-    /// A read is told what the key has here.
+    /// A read is answered what the key has here.
     ReadLocal,
-    /// A read is told what the key had when its question was sent.
+    /// A read is answered what the key had when its question was sent.
     ReadBefore,
     /// A question serves a read that was asked later.
     ReadLater,
     /// A read doesn't wait for the last instance that was found.
     ReadPartly,
-    /// What interferes with a read is told of another generation, and taken.
+    /// What interferes with a read is reported of another generation, and taken.
     ReadForeign,
     /// Of commands that were done some are taken for closed, so that they are done twice.
     DoneTwice,
-    /// Of two receipts that come together each one's client is told the other's answer.
+    /// Of two receipts that come together each one's client gets the other's answer.
     Swapped,
-    /// Some answers are told twice.
+    /// Some answers are sent twice.
     ToldTwice,
     /// The numbers of clients begin anew at each start.
     SameNumbers,
@@ -61,7 +61,7 @@ pub enum Plant {
     JoinsEarly,
     /// What comes while the disk is at work is dropped.
     DropsWhileBusy,
-    /// Of what was written by one command each client is told what another one's key had.
+    /// Of what was written by one command each client is answered what another one's key had.
     ToldAnothers,
     /// A wish is granted whoever is reached, or waits.
     ResizesAlone,
@@ -71,9 +71,9 @@ pub enum Plant {
     LacksMachine,
     /// With an opening of a peer the machine doesn't take the state.
     StaleMachine,
-    /// Who gives up what was proposed is told that it wasn't done.
+    /// Who gives up what was proposed is answered that it wasn't done.
     GivesUpProposed,
-    /// A host ends before what is under way was told.
+    /// A host ends before what is under way was answered.
     EndsEarly,
 }
 

@@ -9,8 +9,8 @@ use crate::parts::reading::Answered;
 use std::time::Instant;
 
 impl Host {
-    /// A client asks what a key has, after all that was told before anywhere. It is told under this number, once:
-    /// [`Told::Value`]. Nothing is written.
+    /// A client asks what a key has, after all that was answered before anywhere. It is answered under this number,
+    /// once: [`Told::Value`]. Nothing is written.
     ///
     /// ```
     /// # use epaxos::{Cluster, host::{Host, Settings}, service::MemoryDisk};
@@ -35,12 +35,12 @@ impl Host {
             1..=LONGEST_KEY => return self.reads.ask(key, token),
             _ => Refusal::Fault(crate::Fault::OutOfRange),
         };
-        self.tell(token, Told::Refused(refusal));
+        self.reply(token, Told::Refused(refusal));
     }
 
     /// A client asks what a key has here, after all that this replica knows to be committed: that may be old, and is
-    /// told at once, without the others, also by a replica that takes part no more, as long as it is there. It is told
-    /// under this number, once: [`Told::Value`].
+    /// answered at once, without the others, also by a replica that takes part no more, as long as it is there. It is
+    /// answered under this number, once: [`Told::Value`].
     ///
     /// ```
     /// # use epaxos::{Cluster, host::{Host, Settings}, service::MemoryDisk};
@@ -59,7 +59,7 @@ impl Host {
     pub fn read_here(&mut self, token: u64, key: Vec<u8>, now: Instant) {
         match key.len() {
             1..=LONGEST_KEY => self.ask_here(token, Some(key), now),
-            _ => self.tell(token, Told::Refused(Refusal::Fault(crate::Fault::OutOfRange))),
+            _ => self.reply(token, Told::Refused(Refusal::Fault(crate::Fault::OutOfRange))),
         }
     }
 
@@ -89,15 +89,15 @@ impl Host {
             () if self.here.len() >= self.settings.most => Refusal::Full,
             () => return self.here.push(Here { token, key, is_due: false }),
         };
-        self.tell(token, Told::Refused(refusal));
+        self.reply(token, Told::Refused(refusal));
     }
 
-    /// Tells who asked of what is here, where all was executed that was known to be committed then.
+    /// Answers who asked for what is here, where all was executed that was known to be committed then.
     pub(super) fn answer_here(&mut self) -> Result<(), HostFault> {
         let Some(acting) = self.acting.as_mut().filter(|_| !self.here.is_empty()) else { return Ok(()) };
         let (due, rest) = std::mem::take(&mut self.here).into_iter().partition(|here| here.is_due);
         self.here = rest;
-        let mut told = Vec::new();
+        let mut outcomes = Vec::new();
         for Here { token, key, .. } in Vec::<Here>::from(due) {
             let it = match key {
                 Some(key) => Told::Value(acting.replica.get(&key)?.map(<[u8]>::to_vec)),
@@ -106,22 +106,22 @@ impl Host {
                     Told::All(all.map(|(key, value)| (key.to_vec(), value.to_vec())).collect())
                 }
             };
-            told.push((token, it));
+            outcomes.push((token, it));
         }
-        told.into_iter().for_each(|(token, it)| self.tell(token, it));
+        outcomes.into_iter().for_each(|(token, it)| self.reply(token, it));
         Ok(())
     }
 
-    /// Tells a peer what interferes with reads of these keys.
-    pub(super) fn tell_interfering(
+    /// Sends a peer what interferes with reads of these keys.
+    pub(super) fn send_interfering(
         &mut self,
         to: u8,
         asked: (u32, Question),
         keys: &[Vec<u8>],
     ) -> Result<(), HostFault> {
         let Some(acting) = &mut self.acting else { return Ok(()) };
-        let told = self.reads.tell(&mut self.progress, &mut acting.replica, asked, keys)?;
-        told.into_iter().for_each(|bytes| self.send(to, bytes));
+        let messages = self.reads.report(&mut self.progress, &mut acting.replica, asked, keys)?;
+        messages.into_iter().for_each(|bytes| self.send(to, bytes));
         Ok(())
     }
 
@@ -153,7 +153,7 @@ impl Host {
 
     fn answer(&mut self, answered: Vec<Answered<u64>>) {
         for (readers, value) in answered {
-            readers.into_iter().for_each(|token| self.tell(token, Told::Value(value.clone())));
+            readers.into_iter().for_each(|token| self.reply(token, Told::Value(value.clone())));
         }
     }
 }

@@ -1,13 +1,13 @@
-//! What whoever asked is told.
+//! What whoever asked is answered.
 use crate::host::WishFault;
 use crate::{Fault, OwnedAnswer};
 
-/// What whoever asked is told, by the number that was handed in with the question.
+/// What whoever asked is answered, by the number that was handed in with the question.
 ///
 /// ```
 /// use epaxos::host::{Reply, Told};
 ///
-/// /// What whoever asked under a number is told.
+/// /// What whoever asked under a number is answered.
 /// fn of(replies: Vec<Reply>, token: u64) -> Option<Told> {
 ///     replies.into_iter().find(|reply| reply.token == token).map(|reply| reply.told)
 /// }
@@ -17,18 +17,18 @@ use crate::{Fault, OwnedAnswer};
 pub struct Reply {
     /// That number.
     pub token: u64,
-    /// What is told. Each question is told once.
+    /// What came of it. Each question is answered once.
     pub told: Told,
 }
 
-/// What is told.
+/// What came of what was asked.
 ///
 /// ```
 /// use epaxos::host::{Refusal, Told};
 ///
 /// /// Whether it was done, if that is known.
-/// fn is_done(told: &Told) -> Option<bool> {
-///     match told {
+/// fn is_done(outcome: &Told) -> Option<bool> {
+///     match outcome {
 ///         Told::Done(_) | Told::Replied(_) | Told::DoneUnseen => Some(true),
 ///         Told::Value(_) | Told::All(_) | Told::Changed(_) => Some(true),
 ///         Told::Refused(_) => Some(false),

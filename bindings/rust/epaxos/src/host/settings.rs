@@ -20,8 +20,8 @@ pub struct Settings {
     pub cluster: Cluster,
     /// Which one this is, from 0.
     pub me: u8,
-    /// What tells this machine from another one that has its number: made by chance once for each disk, and kept. Where
-    /// machines have one, seals name who takes part, and a machine that joins is let in by a
+    /// What distinguishes this machine from another one that has its number: made by chance once for each disk, and
+    /// kept. Where machines have one, seals name who takes part, and a machine that joins is let in by a
     /// [`wish`](super::Host::wish). All machines of a cluster have one, or none has.
     pub identity: Option<Identity>,
     /// Decides what is left to chance. Another one at each start, and at each replica.
@@ -48,7 +48,7 @@ pub struct Settings {
     pub most: usize,
     /// So many generations that were left stay on the disk; `u32::MAX`: all, as an audit of them wants.
     pub kept: u32,
-    /// Whether [`Turn::executed`](super::Turn::executed) tells what was executed.
+    /// Whether [`Turn::executed`](super::Turn::executed) has what was executed.
     pub tells_executed: bool,
     /// How the SHA-256 of logs is found.
     pub sums: Sums,

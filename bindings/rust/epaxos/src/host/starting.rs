@@ -15,7 +15,7 @@ use crate::{Cluster, Executed, Reference, Replica, Setup};
 pub(super) struct Started {
     pub(super) acting: Acting,
     pub(super) files: Files,
-    /// What is to be on the disk before anything is told.
+    /// What is to be on the disk before anything goes out.
     pub(super) acts: Vec<Act>,
     /// The number of this start, from 1.
     pub(super) start: u32,
@@ -63,7 +63,7 @@ pub(super) fn begin(
     let (start, counted) = count(settings, stored)?;
     let replica = Setup { told: Some(0), ..Setup::new(settings.cluster, settings.me) }.begin();
     let replica = replica.map_err(|fault| FolderFault::of(fault, None))?;
-    let mut acting = Acting::new(replica, 1, 0, settings).telling(applying.is_some());
+    let mut acting = Acting::new(replica, 1, 0, settings).reporting(applying.is_some());
     let put = |name, bytes| Act::Put { generation: 1, name, bytes };
     let mut acts = vec![counted];
     if let Some(applying) = applying {
@@ -108,10 +108,10 @@ pub(super) fn go_on(
         None if found.first.reference.is_none() => acts.push(put(whole, Name::Opening, found.first.bytes.clone())),
         None => {}
     }
-    let tells_executed = settings.tells_executed || applying.is_some();
+    let reports_executed = settings.tells_executed || applying.is_some();
     let (mut executed, mut more) = (Vec::new(), Vec::new());
     let each = |generation, done: Option<Executed>| match done {
-        Some(done) => more.extend(tells_executed.then(|| acting::done(generation, &done))),
+        Some(done) => more.extend(reports_executed.then(|| acting::done(generation, &done))),
         None => {
             if let Some(applying) = &mut applying {
                 applying.apply(&more, settings.me);
@@ -129,7 +129,7 @@ pub(super) fn go_on(
     files.unwritten = unwritten;
     files.keep(whole, found.first.bytes.len() as u64, found.first.reference);
     found.references.iter().for_each(|next| files.leave(*next));
-    let mut acting = Acting::new(replica, plan.generation, opening.map, settings).telling(applying.is_some());
+    let mut acting = Acting::new(replica, plan.generation, opening.map, settings).reporting(applying.is_some());
     acts.extend(acting.lend().map_err(FolderFault::Core)?.map(|(bytes, _)| put(plan.generation, Name::Log, bytes)));
     let earlier = held.iter().filter(|one| one.number < plan.generation && one.left_for < plan.generation);
     acts.extend(earlier.map(|one| put(one.number, Name::Left, plan.generation.to_string().into())));

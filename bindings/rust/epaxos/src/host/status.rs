@@ -239,7 +239,7 @@ impl Host {
         self.generation() > 0 && !self.progress.is_alone() && !self.progress.leaves()
     }
 
-    /// The generation that a peer has told last.
+    /// The generation that a peer has reported last.
     ///
     /// ```
     /// # use epaxos::{Cluster, host::{Host, Settings}, service::MemoryDisk};

@@ -17,13 +17,13 @@ use crate::{Instance, OwnedAnswer, OwnedCommand};
 pub struct Turn {
     /// What is to be sent, each with its receiver. Any of it may be lost, repeated or overtaken.
     pub frames: Vec<(u8, Vec<u8>)>,
-    /// What the disk is to do next; nothing more comes before [`Host::synced`](super::Host::synced) is told that it is
+    /// What the disk is to do next; nothing more comes before [`Host::synced`](super::Host::synced) says that it is
     /// done.
     pub writes: Option<Writes>,
-    /// Who is told what.
+    /// Who is answered what.
     pub replies: Vec<Reply>,
-    /// The receipts among them, as an audit takes them: appended to a file before the replies go out, if what was told
-    /// is to be judged.
+    /// The receipts among them, as an audit takes them: appended to a file before the replies go out, if what was
+    /// answered is to be judged.
     pub receipts: Vec<u8>,
     /// Their generation, where there are some.
     pub receipts_of: u32,

@@ -16,7 +16,7 @@ use crate::host::{Span, Trail};
 #[derive(Debug)]
 pub enum Work {
     /// The pieces of this checkpoint are written as `G/opening`, whole and synced, and then
-    /// [`Host::opening_written`](super::Host::opening_written) is told. Where there is a machine, `G/machine` gets
+    /// [`Host::opening_written`](super::Host::opening_written) is called. Where there is a machine, `G/machine` gets
     /// these bytes first, whole and synced.
     Write {
         /// The generation G.
@@ -26,13 +26,13 @@ pub enum Work {
         /// The pieces.
         checkpoint: Checkpoint,
     },
-    /// The folder of a generation that is about to begin is made, so that its begin takes less. Nothing is told of it,
-    /// and nothing depends on it.
+    /// The folder of a generation that is about to begin is made, so that its begin takes less. Nothing is reported of
+    /// it, and nothing depends on it.
     Prepare {
         /// The generation.
         generation: u32,
     },
-    /// A part of `G/opening` is read, and [`Host::opening_read`](super::Host::opening_read) is told: `length` bytes
+    /// A part of `G/opening` is read, and [`Host::opening_read`](super::Host::opening_read) is called: `length` bytes
     /// from `offset` on, or as many as there are.
     Read {
         /// The generation G.
@@ -50,14 +50,15 @@ pub enum Work {
         /// The checkpoint.
         checkpoint: Checkpoint,
     },
-    /// These bytes are read, one behind the other, and [`Host::gathered`](super::Host::gathered) is told.
+    /// These bytes are read, one behind the other, and [`Host::gathered`](super::Host::gathered) is called.
     Gather {
-        /// The number under which it is told.
+        /// The number under which that is called.
         number: u64,
         /// Where they are.
         spans: Vec<Span>,
     },
-    /// What a peer has handed is [gone through](Trail::opening), and [`Host::followed`](super::Host::followed) is told.
+    /// What a peer has handed is [gone through](Trail::opening), and [`Host::followed`](super::Host::followed) is
+    /// called.
     Follow {
         /// The generation that it leads to.
         generation: u32,

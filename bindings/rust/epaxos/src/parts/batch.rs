@@ -73,7 +73,7 @@ impl<M> Batch<M> {
         self.0.iter().all(|request| matches!(request, Request::Frame(_, head, _) if is_it(head)))
     }
 
-    /// The instances that peers have told to be committed, of what the core has taken.
+    /// The instances that peers have reported to be committed, of what the core has taken.
     pub fn committed<'a>(&'a self, done: &'a [Result<(), Fault>]) -> impl Iterator<Item = Instance> {
         self.0.iter().zip(done).filter_map(|it| match it {
             (Request::Frame(_, head, _), Ok(())) if head.is_commit() => Some(head.instance),
@@ -81,12 +81,12 @@ impl<M> Batch<M> {
         })
     }
 
-    /// Whether a peer tells in it of something that is committed.
+    /// Whether a peer reports in it something that is committed.
     pub fn has_commits(&self) -> bool {
         self.0.iter().any(|request| matches!(request, Request::Frame(_, head, _) if head.is_commit()))
     }
 
-    /// Whether a peer tells in it that this instance is committed.
+    /// Whether a peer reports in it that this instance is committed.
     pub fn commits(&self, instance: Instance) -> bool {
         let is_it = |head: &Head| head.is_commit() && head.instance == instance;
         self.0.iter().any(|request| matches!(request, Request::Frame(_, head, _) if is_it(head)))

@@ -54,7 +54,7 @@ pub struct Released<M> {
 
 /// What came of what the core was asked to take.
 pub enum Accepted<M> {
-    /// Nothing that is told anybody.
+    /// Nothing that anybody is answered.
     Nothing,
     /// A proposal is under way, under this client's number and request's.
     UnderWay((u32, u32)),
@@ -178,7 +178,7 @@ impl<M: Called> Calls<M> {
         released
     }
 
-    /// What came of a request. `proposed` tells the instances of those that are proposals, in their order. None where
+    /// What came of a request. `proposed` has the instances of those that are proposals, in their order. None where
     /// it doesn't.
     pub fn accept(
         &mut self,
@@ -237,7 +237,7 @@ impl<M: Called> Calls<M> {
     }
 }
 
-/// The instance that a proposal took, which is the next one that is told.
+/// The instance that a proposal took, which is the next one that is reported.
 fn own_instance(
     progress: &mut Progress,
     (call, spared): (Call, Option<u8>),
@@ -358,24 +358,24 @@ mod tests {
         let mut wholes = it.release(&mut progress, now).wholes.into_iter();
         let proposed =
             |request: u32, number| Proposed { client: 9, request, instance: Instance { replica: 0, number } };
-        let mut told = [proposed(1, 7), proposed(2, 8), proposed(9, 9)].into_iter();
+        let mut instances = [proposed(1, 7), proposed(2, 8), proposed(9, 9)].into_iter();
         for number in [1, 2] {
             let asked = (request(wholes.next().unwrap(), number), Ok(()));
-            let accepted = it.accept(&mut progress, asked, &mut told, now);
+            let accepted = it.accept(&mut progress, asked, &mut instances, now);
             assert!(matches!(accepted, Some(Accepted::UnderWay((9, it))) if it == number));
         }
         // An instance of another proposal isn't its own.
         let other = (request(wholes.next().unwrap(), 3), Ok(()));
-        assert!(it.accept(&mut progress, other, &mut told, now).is_none());
+        assert!(it.accept(&mut progress, other, &mut instances, now).is_none());
         let refused = (request(wholes.next().unwrap(), 4), Err(Fault::Memory));
-        let accepted = it.accept(&mut progress, refused, &mut told, now);
+        let accepted = it.accept(&mut progress, refused, &mut instances, now);
         assert!(matches!(accepted, Some(Accepted::Refused(_, members, Fault::Memory)) if members.len() == 1));
         // One without a number waits again, and may be given up.
         let full = (request(wholes.next().unwrap(), 5), Err(Fault::SpaceFull));
-        assert!(matches!(it.accept(&mut progress, full, &mut told, now), Some(Accepted::Held(_))));
+        assert!(matches!(it.accept(&mut progress, full, &mut instances, now), Some(Accepted::Held(_))));
         assert!(!it.held[0].2.get().1 && !progress.generation.has_room(1));
         assert!(it.answer((9, 1), &Answer::Absent).is_some() && it.answer((9, 1), &Answer::Absent).is_none());
-        // What was under way the next opening tells of.
+        // What was under way the next opening has.
         let instance = Instance { replica: 0, number: 8 };
         let fate = |it: &mut Calls<Ask>, generation, executed: &[Instance]| {
             let command = OwnedCommand::Get { key: vec![1] };

@@ -1,4 +1,4 @@
-//! What is committed in a generation: here, and as far as peers tell.
+//! What is committed in a generation: here, and as far as peers report.
 use crate::{Fields, Instance, MOST_INSTANCES};
 use std::collections::{BTreeMap, BTreeSet};
 use std::time::{Duration, Instant};
@@ -142,7 +142,7 @@ impl Commits {
         self.sent.entry(instance).or_insert((entry, when));
     }
 
-    /// A peer has told what is committed there, and the greatest entry of this replica that it has seen: what this
+    /// A peer has reported what is committed there, and the greatest entry of this replica that it has seen: what this
     /// replica has sent, and what should have come by now. Frames of one connection come in the order of their entries,
     /// however long they take. None where that is nothing, or where what was sent again is on its way.
     pub fn lacking(&self, peer: u8, there: &Committed, seen: u32, now: Instant) -> Option<Lacking> {

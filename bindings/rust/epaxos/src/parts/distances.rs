@@ -9,7 +9,7 @@ const BETWEEN_PINGS: Duration = Duration::from_millis(250);
 const MOST_PINGS: usize = 32;
 /// Where this replica was away for so long, what came meanwhile may have come long ago.
 const AWAY: Duration = Duration::from_millis(500);
-/// The shortest of the last round trips tells how far a peer is, whatever else the machines do: of so many, once there
+/// The shortest of the last round trips shows how far a peer is, whatever else the machines do: of so many, once there
 /// are so many.
 const KEPT: usize = 32;
 const FEWEST: usize = 8;
@@ -89,7 +89,7 @@ impl Distances {
     }
 
     /// It is looked which pings are due, as was wanted for that time at the latest: those from before this replica was
-    /// away tell nothing.
+    /// away show nothing.
     pub fn look(&mut self, now: Instant, wanted: Instant) {
         if now > self.looked + AWAY {
             self.peers.iter_mut().for_each(|peer| peer.pings.clear());
@@ -320,14 +320,14 @@ mod tests {
     }
 
     #[test]
-    fn pongs_tell_of_the_spared_one_no_less_than_answers_of_others() {
+    fn pongs_say_of_the_spared_one_no_less_than_answers_of_others() {
         let (mut it, mut now) = measured(72, 151);
         it.note(1, ms(200), now);
-        for (peer, took, told) in [(2, 151, Some(200)), (2, 201, Some(201)), (1, 300, None)] {
+        for (peer, took, expected) in [(2, 151, Some(200)), (2, 201, Some(201)), (1, 300, None)] {
             now += BETWEEN_PINGS;
             it.look(now, now);
             let number = it.ping(peer, now).unwrap();
-            assert_eq!(it.answer(peer, number, now + ms(took)), told.map(ms));
+            assert_eq!(it.answer(peer, number, now + ms(took)), expected.map(ms));
         }
     }
 
@@ -383,7 +383,7 @@ mod tests {
         it.owe(1, sent);
         let from = sent + ms(372);
         assert_eq!((silent(&it, from - ms(1)), silent(&it, from)), ([false; 2], [true, false]));
-        // What it can have sent before it had this tells nothing; what comes later tells that it is slow.
+        // What it can have sent before it had this shows nothing; what comes later shows that it is slow.
         it.hear(1, sent + ms(71));
         assert!(it.is_silent(1, from));
         it.owe(1, sent + ms(60));
@@ -408,7 +408,7 @@ mod tests {
     }
 
     #[test]
-    fn what_came_while_it_was_away_tells_nothing() {
+    fn what_came_while_it_was_away_says_nothing() {
         let (mut it, now) = measured(151, 72);
         let sent = now + BETWEEN_PINGS;
         it.look(sent, sent);

@@ -36,6 +36,6 @@ pub trait Ends: Send + Sync + 'static {
     /// Something has happened: whether anybody wants to know it still.
     fn happen(&self, what: Happened) -> bool;
 
-    /// Tells people a line of what goes well, or doesn't.
-    fn tell(&self, _is_well: bool, _line: &str) {}
+    /// Logs a line, for people, of what goes well, or doesn't.
+    fn log(&self, _is_well: bool, _line: &str) {}
 }

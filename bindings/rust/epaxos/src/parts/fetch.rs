@@ -12,7 +12,7 @@ const PARTS: u32 = 4;
 /// Once so many pieces that were asked for later have come it is asked for again at once: they come in order, where
 /// none is lost.
 const MOST_PASSED: u8 = 3;
-/// A replica that tells nothing for so many times as long isn't asked any more.
+/// A replica that answers nothing for so many times as long isn't asked any more.
 pub const TIMES: u32 = 4;
 
 /// Where what comes is put together.
@@ -234,7 +234,7 @@ mod tests {
         let (mut fetch, first) = begin(now);
         // All that is asked for in a round trip is answered together.
         let (mut asked, mut trips) = (vec![first], 0);
-        let told = 'trips: loop {
+        let generation = 'trips: loop {
             trips += 1;
             for ask in std::mem::take(&mut asked) {
                 let piece = answer(&openings, &ask);
@@ -249,8 +249,8 @@ mod tests {
             }
             assert!(asked.len() <= WINDOW && !asked.is_empty());
         };
-        // (23 pieces: the first one alone, as it tells how many there are)
-        assert_eq!((told, trips), (3, 4));
+        // (23 pieces: the first one alone, as it says how many there are)
+        assert_eq!((generation, trips), (3, 4));
         assert!(fetch.into_sink() == openings[&3]);
     }
 
@@ -288,7 +288,7 @@ mod tests {
         let steps: Vec<_> = asked[1..4].iter().map(|ask| fetch.take(1, answer(&openings, ask), start)).collect();
         let Ok(Step::Ask(more)) = &steps[2] else { panic!() };
         assert!(more.contains(&asked[0]), "{more:?}");
-        // Who tells nothing for long is asked no more. What a piece takes counts.
+        // Who answers nothing for long is asked no more. What a piece takes counts.
         assert!(!fetch.is_over(start + TIMES * PATIENCE) && fetch.is_over(start + (TIMES + 1) * PATIENCE));
         let later = start + Duration::from_secs(1);
         assert!(matches!(fetch.take(1, answer(&openings, &asked[4]), later), Ok(Step::Ask(_))));

@@ -103,7 +103,7 @@ fn no_reference(bytes: &[u8]) -> String {
     ffi::read_reference(bytes).err().map(why).unwrap_or_default()
 }
 
-/// Why bytes are none of an opening or a reference, by the status that tells it.
+/// Why bytes are none of an opening or a reference, by the status that says so.
 fn why((status, Place { at, .. }): (u8, Place)) -> String {
     match status {
         status::OPENING_SHORT => format!("cut short at byte {at}"),
@@ -170,19 +170,19 @@ mod tests {
         for at in 0..good.len() {
             let mut turned = good.clone();
             turned[at] ^= 1;
-            let told = match at {
+            let expected = match at {
                 0..4 => "wrong field at byte 0",
                 4 => "wrong field at byte 4",
                 _ => "damaged: no digest of the bytes before it at byte 50",
             };
-            assert_eq!(why(&turned), told);
+            assert_eq!(why(&turned), expected);
             let refused = reference_of(&turned, 2).unwrap_err().to_string();
-            assert_eq!(refused, format!("folder refused: the reference of generation 2: {told}"));
+            assert_eq!(refused, format!("folder refused: the reference of generation 2: {expected}"));
         }
-        for (at, byte, told) in [(5, 4, 5), (9, 1, 6), (17, 42, 10)] {
+        for (at, byte, expected) in [(5, 4, 5), (9, 1, 6), (17, 42, 10)] {
             let mut changed = good[..50].to_vec();
             changed[at] = byte;
-            assert_eq!(why(&digested(&changed)), format!("wrong field at byte {told}"));
+            assert_eq!(why(&digested(&changed)), format!("wrong field at byte {expected}"));
         }
         assert_eq!(why(&digested(&[&good[..50], b"!"].concat())), "wrong field at byte 50");
     }
@@ -198,26 +198,26 @@ mod tests {
         };
         let (first, second) = (bytes_of(&lines[..2]), bytes_of(&lines[2..6]));
         assert_eq!(Cluster::Three.first_opening(), first);
-        let told = opened(second.clone()).unwrap();
-        assert_eq!((told.generation, told.replicas, &told.bytes), (2, 3, &second));
+        let opening = opened(second.clone()).unwrap();
+        assert_eq!((opening.generation, opening.replicas, &opening.bytes), (2, 3, &second));
         let why = |bytes: &[u8]| opened(bytes.to_vec()).unwrap_err();
         for count in 0..59 {
             assert_eq!(why(&second[..count]), format!("cut short at byte {count}"));
         }
-        for (place, told) in [
+        for (place, expected) in [
             (0, "wrong field at byte 0"),
             (4, "wrong field at byte 4"),
             (5, "damaged: no digest of the bytes before it at byte 45"),
         ] {
             let mut changed = second.clone();
             changed[place] ^= 0x10;
-            assert_eq!(why(&changed), told);
+            assert_eq!(why(&changed), expected);
         }
-        for (place, byte, told) in [(5, 4, "wrong field at byte 5"), (9, 0, "wrong field at byte 6")] {
+        for (place, byte, expected) in [(5, 4, "wrong field at byte 5"), (9, 0, "wrong field at byte 6")] {
             let mut changed = second[..45].to_vec();
             changed[place] = byte;
             let digest = Sum::of(&changed);
-            assert_eq!(why(&[&changed[..], &digest].concat()), told);
+            assert_eq!(why(&[&changed[..], &digest].concat()), expected);
         }
     }
 }

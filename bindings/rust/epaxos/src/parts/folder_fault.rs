@@ -50,7 +50,7 @@ pub enum FolderFault {
     Open(OpenFault),
     /// The logs don't lead to the last generation.
     Succeed(SucceedFault),
-    /// The core refuses what it had told.
+    /// The core refuses what it had reported.
     Core(Fault),
 }
 

@@ -35,7 +35,7 @@ impl Follower {
     }
 
     /// The replica in the generation that is started, with this log, or at its beginning: by its opening, or by the
-    /// logs from an earlier one on. `log_of` gives the log that a reference names; `each` is told what each of these
+    /// logs from an earlier one on. `log_of` gives the log that a reference names; `each` gets what each of these
     /// executed, with its generation, and then that it is over.
     pub fn begin(
         &self,

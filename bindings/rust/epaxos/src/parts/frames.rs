@@ -33,7 +33,7 @@ impl Head {
         Some(Head { kind, op, entry, instance, ballot, dependencies, generation })
     }
 
-    /// Whether it tells that a command, or a seal, is committed.
+    /// Whether it says that a command, or a seal, is committed.
     pub fn is_commit(&self) -> bool {
         self.kind == COMMIT
     }
@@ -64,12 +64,12 @@ impl Head {
         self.is_prepare() || self.is_accept() || (self.kind == PRE_ACCEPT && self.ballot > 0)
     }
 
-    /// Whether it tells of a seal that is under way.
+    /// Whether it is of a seal that is under way.
     pub fn is_seal_proposed(&self) -> bool {
         self.kind == PRE_ACCEPT && self.op == SEAL
     }
 
-    /// Whether it tells of a seal that is committed.
+    /// Whether it says that a seal is committed.
     pub fn is_seal_committed(&self) -> bool {
         self.is_commit() && self.op == SEAL
     }

@@ -1,4 +1,4 @@
-//! What a peer's host tells, of what each host goes about in the same way.
+//! What a peer's host reports, of what each host goes about in the same way.
 use crate::parts::messages::Message;
 use crate::parts::progress::Progress;
 use crate::parts::reading::Reading;
@@ -14,7 +14,7 @@ pub enum Heard {
     Message(Message),
 }
 
-/// Hears what a peer's host tells.
+/// Hears what a peer's host reports.
 pub fn hear<T>(progress: &mut Progress, reads: &mut Reading<T>, (from, bytes): (u8, Vec<u8>), now: Instant) -> Heard {
     let own = progress.generation.number;
     match Message::read(&bytes) {

@@ -1,8 +1,8 @@
-//! What tells a machine from another one that has its number.
+//! What distinguishes a machine from another one that has its number.
 use std::fs::File;
 use std::io::{self, Read};
 
-/// What tells a machine from another one that has its number: 16 bytes by chance.
+/// What distinguishes a machine from another one that has its number: 16 bytes by chance.
 ///
 /// ```
 /// let identity: epaxos::host::Identity = [7; 16];

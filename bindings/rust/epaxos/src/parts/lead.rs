@@ -1,5 +1,5 @@
-//! What is handed to peers that lag: the bytes that lead to a generation, of each peer those that it was told of first,
-//! for as long as they are there.
+//! What is handed to peers that lag: the bytes that lead to a generation, of each peer those that were announced to it
+//! first, for as long as they are there.
 use crate::host::Span;
 use crate::parts::messages::{LONGEST_PIECE, Message};
 use crate::parts::way::Way;
@@ -27,7 +27,7 @@ impl Piece {
         Piece { ends: way.ends(), total: way.total(), offset, front, spans }
     }
 
-    /// What is told the peer, once this is read.
+    /// What is sent to the peer, once this is read.
     pub fn with(self, rest: &[u8]) -> Message {
         let Piece { ends: (first, generation), total, offset, mut front, .. } = self;
         front.extend(rest);
@@ -37,7 +37,7 @@ impl Piece {
 
 impl Lead {
     /// The piece at `offset` of the bytes that lead from the first of these generations to the second, where a peer was
-    /// told of them before.
+    /// notified of them before.
     pub fn begun(&self, to: u8, ends: (u32, u32), offset: u64) -> Option<Piece> {
         self.ways.get(&to).filter(|way| way.ends() == ends).map(|way| Piece::of(way, offset))
     }

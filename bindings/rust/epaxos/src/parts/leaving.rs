@@ -9,8 +9,8 @@ use std::time::{Duration, Instant};
 /// A generation whose seal was executed is served so long, for peers that are reached and haven't executed it.
 const MOST_WAIT_FOR_PEERS: Duration = Duration::from_millis(100);
 /// And so long by a replica that takes part in the next one no more, for those that do: they may need its vote to end
-/// this one. Before a majority of them has told that it has executed the seal, it is served for longer: they may be no
-/// majority of this generation, which nobody could end any more then.
+/// this one. Before a majority of them has reported that it has executed the seal, it is served for longer: they may be
+/// no majority of this generation, which nobody could end any more then.
 const MOST_WAIT_AT_LEAVING: Duration = Duration::from_secs(10);
 const MOST_WAIT_FOR_MAJORITY: Duration = Duration::from_secs(600);
 /// A replica that lags closes by itself in this time, or takes the opening of another one.
@@ -59,13 +59,13 @@ impl Progress {
         is_concerned && !self.others.has_sealed(peer, self.generation.number)
     }
 
-    /// Whether this replica leaves, and too few of those that stay have told that they have executed the seal.
+    /// Whether this replica leaves, and too few of those that stay have reported that they have executed the seal.
     pub fn waits_for_majority(&self) -> bool {
         self.leaves() && !self.is_sealed_by_majority()
     }
 
-    /// Whether a majority of those that take part in the next generation has told that it has executed the seal of this
-    /// one.
+    /// Whether a majority of those that take part in the next generation has reported that it has executed the seal of
+    /// this one.
     fn is_sealed_by_majority(&self) -> bool {
         let size = self.generation.next_size.unwrap_or(self.place.replicas);
         let has_sealed = |replica: &u8| self.others.has_sealed(*replica, self.generation.number);
@@ -115,11 +115,11 @@ mod tests {
     #[test]
     fn who_has_not_executed_the_seal_is_waited_for() {
         let start = Instant::now();
-        let of = |replica, next_size: Option<usize>, told: &[(u8, u32, bool)]| {
+        let of = |replica, next_size: Option<usize>, heard: &[(u8, u32, bool)]| {
             let state = State { generation: 2, is_sealed: true, ..State::default() };
             let mut it = Progress::new(Place { replicas: 5, replica }, state, 1, start).unwrap();
             it.generation.next_size = next_size;
-            for &(peer, generation, is_sealed) in told {
+            for &(peer, generation, is_sealed) in heard {
                 it.links[usize::from(peer)] = true;
                 it.others.hear(peer, generation, is_sealed);
             }
@@ -145,7 +145,7 @@ mod tests {
     }
 
     #[test]
-    fn the_seal_that_was_executed_tells_who_goes_on() {
+    fn the_seal_that_was_executed_says_who_goes_on() {
         let of = |size: usize| Members(vec![Member::default(); size]);
         let commit = |number: u8, members: &Members| {
             let value = members.write().into_bytes();
@@ -172,14 +172,22 @@ mod tests {
     fn a_majority_of_those_that_stay_has_executed_the_seal() {
         let mut it = Progress::new(Place { replicas: 7, replica: 5 }, State::default(), 1, Instant::now()).unwrap();
         it.generation.number = 2;
-        let mut told = |size, peer, generation, is_sealed| {
+        let mut is_sealed_after = |size, peer, generation, is_sealed| {
             it.generation.next_size = size;
             it.hear_hello(peer, (generation, is_sealed, 0));
             it.is_sealed_by_majority()
         };
-        assert!(!told(Some(3), 0, 2, true) && !told(Some(3), 1, 2, false) && !told(Some(3), 6, 3, false));
-        assert!(told(Some(3), 1, 3, false) && !told(Some(5), 3, 1, true) && !told(None, 3, 2, false));
-        assert!(told(None, 4, 2, true));
+        assert!(
+            !is_sealed_after(Some(3), 0, 2, true)
+                && !is_sealed_after(Some(3), 1, 2, false)
+                && !is_sealed_after(Some(3), 6, 3, false)
+        );
+        assert!(
+            is_sealed_after(Some(3), 1, 3, false)
+                && !is_sealed_after(Some(5), 3, 1, true)
+                && !is_sealed_after(None, 3, 2, false)
+        );
+        assert!(is_sealed_after(None, 4, 2, true));
     }
 
     #[test]

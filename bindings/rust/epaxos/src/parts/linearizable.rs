@@ -1,23 +1,23 @@
-//! Whether what clients of one key were told is what one register would have told them, each command at some moment
-//! between its question and its answer: the search of Wing and Gong, with Lowe's memory of what was tried.
+//! Whether what clients of one key were answered is what one register would have answered them, each command at some
+//! moment between its question and its answer: the search of Wing and Gong, with Lowe's memory of what was tried.
 use std::collections::{BTreeSet, HashSet};
 
-/// What was asked of the key, and told. Values are numbers, each set at most once.
+/// What was asked of the key, and answered. Values are numbers, each set at most once.
 #[derive(Clone, Copy, PartialEq, Eq, Debug)]
 pub enum Action {
     Set(u32),
-    /// The value that it was told.
+    /// The value that it was answered.
     Get(Option<u32>),
-    /// Whether the key was there; None: nothing was told.
+    /// Whether the key was there; None: nothing was answered.
     Del(Option<bool>),
-    /// Set, and told what was there before; None: nothing was told.
+    /// Set, and answered what was there before; None: nothing was answered.
     Exchange(u32, Option<Option<u32>>),
-    /// Set where nothing is there, and told whether it was set; None: nothing was told.
+    /// Set where nothing is there, and answered whether it was set; None: nothing was answered.
     New(u32, Option<bool>),
 }
 
-/// A command of one key, with its moments. Without an end nothing was told: it may have been done at any moment since
-/// its start, or not at all.
+/// A command of one key, with its moments. Without an end nothing was answered: it may have been done at any moment
+/// since its start, or not at all.
 #[derive(Clone, Copy, PartialEq, Eq, Debug)]
 pub struct Operation {
     pub action: Action,
@@ -39,14 +39,16 @@ const MOST_STEPS: u64 = 50_000_000;
 /// Most orders are found nearly straight on: within so many steps an operation it isn't noted what was tried.
 const STEPS_UNNOTED: u64 = 8;
 
-/// What the register holds afterwards, if it may tell what the action was told.
+/// What the register holds afterwards, if it may answer what the action was answered.
 fn apply(state: Option<u32>, action: Action) -> Option<Option<u32>> {
     match action {
         Action::Set(value) => Some(Some(value)),
-        Action::Get(told) => (told == state).then_some(state),
-        Action::Del(told) => told.is_none_or(|told| told == state.is_some()).then_some(None),
-        Action::Exchange(value, told) => told.is_none_or(|told| told == state).then_some(Some(value)),
-        Action::New(value, told) => told.is_none_or(|told| told == state.is_none()).then_some(state.or(Some(value))),
+        Action::Get(shown) => (shown == state).then_some(state),
+        Action::Del(shown) => shown.is_none_or(|shown| shown == state.is_some()).then_some(None),
+        Action::Exchange(value, shown) => shown.is_none_or(|shown| shown == state).then_some(Some(value)),
+        Action::New(value, shown) => {
+            shown.is_none_or(|shown| shown == state.is_none()).then_some(state.or(Some(value)))
+        }
     }
 }
 
@@ -61,20 +63,20 @@ pub fn check(operations: &[Operation]) -> Verdict {
     }
 }
 
-/// Without the sets that nobody was told of, neither themselves nor by a value: where nobody is told that something was
-/// there, an order with one of these is one without it, too.
+/// Without the sets that were shown to nobody, neither themselves nor by a value: where nobody is answered that
+/// something was there, an order with one of these is one without it, too.
 fn without_unseen(operations: &[Operation]) -> Vec<Operation> {
-    let tells_of_some = |action: Action| matches!(action, Action::Del(Some(true)) | Action::New(_, Some(false)));
-    let is_some_told = operations.iter().any(|operation| tells_of_some(operation.action));
-    let tells = |operation: &Operation| match operation.action {
-        Action::Get(told) | Action::Exchange(_, Some(told)) => told,
+    let shows_some = |action: Action| matches!(action, Action::Del(Some(true)) | Action::New(_, Some(false)));
+    let is_some_shown = operations.iter().any(|operation| shows_some(operation.action));
+    let shown_by = |operation: &Operation| match operation.action {
+        Action::Get(shown) | Action::Exchange(_, Some(shown)) => shown,
         _ => None,
     };
-    let told: HashSet<u32> = operations.iter().filter_map(tells).collect();
-    let is_told = |value: u32| told.contains(&value);
+    let all_shown: HashSet<u32> = operations.iter().filter_map(shown_by).collect();
+    let is_shown = |value: u32| all_shown.contains(&value);
     let is_needed = |operation: &Operation| match (operation.action, operation.end) {
         (Action::Set(value) | Action::Exchange(value, _) | Action::New(value, _), None) => {
-            is_some_told || is_told(value)
+            is_some_shown || is_shown(value)
         }
         (Action::Get(_), None) => false,
         _ => true,
@@ -114,7 +116,7 @@ struct Search<'a> {
     unplaced: BTreeSet<usize>,
     /// The greatest that had its place before each one got its own, and at last now.
     greatest: Vec<usize>,
-    /// How many that were told have none yet.
+    /// How many that were answered have none yet.
     left: usize,
 }
 
@@ -248,7 +250,7 @@ mod tests {
         Operation { action, start, end: Some(end) }
     }
 
-    fn untold(action: Action, start: u64) -> Operation {
+    fn unanswered(action: Action, start: u64) -> Operation {
         Operation { action, start, end: None }
     }
 
@@ -270,8 +272,8 @@ mod tests {
     #[test]
     fn at_the_same_time() {
         let sets = [at(Set(1), 0, 10), at(Set(2), 0, 10)];
-        for told in [Some(1), Some(2), None] {
-            let get = at(Get(told), 5, 6);
+        for value in [Some(1), Some(2), None] {
+            let get = at(Get(value), 5, 6);
             assert!(is_linearizable(&[sets[0], sets[1], get]));
         }
         // Both orders are possible, but only one of them was.
@@ -283,16 +285,16 @@ mod tests {
     }
 
     #[test]
-    fn what_was_not_told_may_be_done_or_not() {
-        let set = untold(Set(1), 0);
+    fn what_was_not_answered_may_be_done_or_not() {
+        let set = unanswered(Set(1), 0);
         assert!(is_linearizable(&[set, at(Get(None), 5, 6)]));
         assert!(is_linearizable(&[set, at(Get(None), 5, 6), at(Get(Some(1)), 7, 8)]));
         assert!(!is_linearizable(&[set, at(Get(Some(1)), 5, 6), at(Get(None), 7, 8)]));
-        assert!(is_linearizable(&[set, untold(Del(None), 0), at(Get(Some(1)), 5, 6), at(Get(None), 7, 8)]));
+        assert!(is_linearizable(&[set, unanswered(Del(None), 0), at(Get(Some(1)), 5, 6), at(Get(None), 7, 8)]));
         assert!(is_linearizable(&[set, at(Del(Some(true)), 5, 6)]));
-        assert!(!is_linearizable(&[untold(Set(1), 9), at(Del(Some(true)), 5, 6)]));
-        assert!(!is_linearizable(&[untold(Set(1), 9), at(Get(Some(1)), 5, 6)]));
-        assert!(is_linearizable(&[untold(Get(Some(9)), 0)]));
+        assert!(!is_linearizable(&[unanswered(Set(1), 9), at(Del(Some(true)), 5, 6)]));
+        assert!(!is_linearizable(&[unanswered(Set(1), 9), at(Get(Some(1)), 5, 6)]));
+        assert!(is_linearizable(&[unanswered(Get(Some(9)), 0)]));
     }
 
     /// Against all orders of a few operations.
@@ -305,14 +307,14 @@ mod tests {
                 .map(|place| {
                     let start = random.below(12);
                     let end = (random.below(5) > 0).then_some(start + 1 + random.below(6));
-                    let told = random.below(3) as u32;
-                    let value = if told == 0 { None } else { Some(told) };
+                    let drawn = random.below(3) as u32;
+                    let value = if drawn == 0 { None } else { Some(drawn) };
                     let action = match random.below(5) {
                         0 => Set(place + 1),
                         1 => Get(value),
                         2 => Exchange(place + 1, end.map(|_| value)),
-                        3 => New(place + 1, end.map(|_| told == 0)),
-                        _ => Del(end.map(|_| told == 0)),
+                        3 => New(place + 1, end.map(|_| drawn == 0)),
+                        _ => Del(end.map(|_| drawn == 0)),
                     };
                     Operation { action, start, end }
                 })

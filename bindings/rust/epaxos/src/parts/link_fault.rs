@@ -7,9 +7,9 @@ use std::io;
 pub enum LinkFault {
     /// The other end has closed it.
     Closed,
-    /// What the other end tells isn't authentic.
+    /// What the other end sends isn't authentic.
     NotAuthentic,
-    /// The other end tells nothing.
+    /// The other end sends nothing.
     Silent,
     Broken,
     /// Nothing can be sent by it.
@@ -25,7 +25,7 @@ pub enum LinkFault {
 }
 
 impl LinkFault {
-    /// What a failed read tells of the connection.
+    /// What a failed read says of the connection.
     pub fn of_read(error: &io::Error) -> LinkFault {
         match error.kind() {
             io::ErrorKind::UnexpectedEof => LinkFault::Closed,

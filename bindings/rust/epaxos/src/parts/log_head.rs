@@ -1,4 +1,4 @@
-//! What a log tells before its records.
+//! What a log says before its records.
 use crate::ffi;
 use crate::records::HEADER;
 

@@ -63,7 +63,7 @@ impl Mac for Guard {
     }
 }
 
-/// Whether these are the same. How long that takes tells nothing of where they differ.
+/// Whether these are the same. How long that takes reveals nothing of where they differ.
 pub fn is_same(one: &[u8], other: &[u8]) -> bool {
     let differ = one.iter().zip(other).fold(0, |differ, (one, other)| black_box(differ | (one ^ other)));
     one.len() == other.len() && black_box(differ) == 0

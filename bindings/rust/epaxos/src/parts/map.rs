@@ -39,14 +39,14 @@ pub fn execute(map: &mut Map, command: &OwnedCommand) -> OwnedAnswer {
 
 /// Does a command of many keys: all that it writes if each key has what is required, else nothing.
 fn execute_many(map: &mut Map, tx: &Tx) -> OwnedAnswer {
-    let told = tx.items().filter(|item| item.is_told).map(|item| map.get(item.key).cloned());
-    let told = OwnedValues::new(told.collect::<Vec<_>>()).unwrap_or_default();
+    let reported = tx.items().filter(|item| item.is_told).map(|item| map.get(item.key).cloned());
+    let reported = OwnedValues::new(reported.collect::<Vec<_>>()).unwrap_or_default();
     let holds = |it: Item| it.required.is_none_or(|value| map.get(it.key).map(Vec::as_slice) == value);
     if !tx.items().all(holds) {
-        return OwnedAnswer::Undone(told);
+        return OwnedAnswer::Undone(reported);
     }
     for item in tx.items() {
         item.written.map(|value| put(map, item.key, value));
     }
-    OwnedAnswer::Done(told)
+    OwnedAnswer::Done(reported)
 }

@@ -1,7 +1,7 @@
 //! Who takes part: what a seal's value says of the next generation.
 //!
 //! A line for each replica: its number, its identity in hexadecimal, and the address where it listens for its peers;
-//! `-` where the one or the other isn't told: then who is met first is taken for it, and it is where `--peers` says.
+//! `-` where the one or the other isn't named: then who is met first is taken for it, and it is where `--peers` says.
 use crate::parts::identity::{Identity, digits, identity};
 use std::fmt::Write;
 
@@ -15,7 +15,7 @@ const NONE: &str = "-";
 /// ```
 #[derive(Clone, Default, PartialEq, Eq, Debug)]
 pub struct Member {
-    /// What tells it from another machine with its number, where that is known.
+    /// What distinguishes it from another machine with its number, where that is known.
     pub identity: Option<Identity>,
     /// Where it listens for its peers, where a seal names that.
     pub address: Option<String>,
@@ -36,7 +36,7 @@ impl Members {
         text
     }
 
-    /// None where the value of a seal tells no members.
+    /// None where the value of a seal names no members.
     pub fn read(value: &[u8]) -> Option<Members> {
         let text = std::str::from_utf8(value).ok()?;
         let mut lines = text.lines();

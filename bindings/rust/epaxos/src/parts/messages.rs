@@ -1,4 +1,4 @@
-//! What hosts tell one another, on the connections of frames: how far each is, what is committed there, what interferes
+//! What hosts send one another, on the connections of frames: how far each is, what is committed there, what interferes
 //! with reads, and openings, or what leads to them, in pieces.
 use crate::parts::commits::Committed;
 use crate::parts::identity::Identity;

@@ -1,4 +1,4 @@
-//! What a file tells that a generation opens with.
+//! What a file says that a generation opens with.
 use crate::ffi::{self, OpeningHead};
 use crate::library::open_fault;
 use crate::parts::members::Members;
@@ -40,7 +40,7 @@ pub struct Opening {
 }
 
 impl Opening {
-    /// Who takes part, where the seal tells it.
+    /// Who takes part, where the seal says it.
     pub fn members(&self) -> Option<Members> {
         self.seal.as_deref().and_then(Members::read)
     }
@@ -51,7 +51,7 @@ impl Opening {
         self.members().map_or(self.replicas, |members| members.0.len() as u8)
     }
 
-    /// What a file tells before its map.
+    /// What a file says before its map.
     pub fn read_front_of(path: &Path) -> io::Result<Opening> {
         let mut input = Window::new(File::open(path)?);
         Opening::front(input.look(LONGEST_FRONT)?).ok_or_else(bad)
@@ -66,7 +66,7 @@ impl Opening {
         Opening::from(bytes).ok()
     }
 
-    /// What an opening tells before its map, by its first bytes. None where they are too few, or none's.
+    /// What an opening says before its map, by its first bytes. None where they are too few, or none's.
     pub fn front(bytes: &[u8]) -> Option<Opening> {
         Opening::with_head(bytes).map(|(opening, _)| opening)
     }
@@ -209,15 +209,16 @@ mod tests {
             "45504f50 03 03 00000001 0000000000000000 00 00000000 00000000
              eb5a8aa78654c433ae5ae2e8b6468a4d6af5d3dde105ada9fd77d626eb39478e",
         );
-        let told = Opening { replicas: 3, generation: 1, ..Opening::default() };
-        assert_eq!(Opening::from(&first[..]).unwrap(), told);
+        let expected = Opening { replicas: 3, generation: 1, ..Opening::default() };
+        assert_eq!(Opening::from(&first[..]).unwrap(), expected);
         let second = digits(
             "45504f50 03 03 00000002 0000000000000005 01 00000001 78 00000001 01 00000001 61 31
              00000002  00 0001  02 0007 ba4a4d800fb593e6b4257ad4a8286b173b475a92cf8b8c816f8b2f08e944b31a",
         );
         let executed = [(0, 1), (2, 7)].map(|(replica, number)| Instance { replica, number }).into();
-        let told = Opening { replicas: 3, generation: 2, base_stamp: 5, seal: Some(b"x".to_vec()), map: 7, executed };
-        assert_eq!(Opening::from(&second[..]).unwrap(), told);
+        let expected =
+            Opening { replicas: 3, generation: 2, base_stamp: 5, seal: Some(b"x".to_vec()), map: 7, executed };
+        assert_eq!(Opening::from(&second[..]).unwrap(), expected);
         for cut in 0..second.len() {
             assert!(Opening::from(&second[..cut]).is_err());
         }
@@ -255,7 +256,7 @@ mod tests {
         }
         let bytes = made((5, 258, 7), b"seal", &map).unwrap();
         assert_eq!(bytes.len(), LEAST + 4 + map.len());
-        let told = Opening {
+        let expected = Opening {
             replicas: 5,
             generation: 258,
             base_stamp: 7,
@@ -263,8 +264,8 @@ mod tests {
             map: map.len() as u64 - 4,
             ..Opening::default()
         };
-        assert_eq!(Opening::of(&bytes), Some(told.clone()));
-        assert_eq!(Opening::from(Slow(&bytes)).unwrap(), told);
+        assert_eq!(Opening::of(&bytes), Some(expected.clone()));
+        assert_eq!(Opening::from(Slow(&bytes)).unwrap(), expected);
         assert_eq!(map_of(&bytes).unwrap(), map);
         let less = lacking(&bytes, |count| count - 1).unwrap();
         assert_eq!(less.len(), bytes.len() - 7 - 253);

@@ -4,18 +4,18 @@ use std::time::{Duration, Instant};
 
 /// Frames of later generations are kept up to so many bytes; then the oldest are lost.
 const MOST_EARLY: usize = 16 << 20;
-/// A peer that lags is told so at most that often.
+/// A peer that lags is notified at most that often.
 const BETWEEN_WORDS: Duration = Duration::from_millis(100);
 
 #[derive(Clone, Default)]
 struct Other {
     generation: u32,
     is_sealed: bool,
-    /// Whether it has told how far it is since this replica has started.
+    /// Whether it has reported how far it is since this replica has started.
     is_heard: bool,
     /// The greatest number of an entry of it that was seen in the present generation.
     seen: u32,
-    /// The same of this replica that it has told it saw.
+    /// The same of this replica that it has reported it saw.
     sees: u32,
     greeted: Option<Instant>,
 }
@@ -57,19 +57,19 @@ impl Others {
         self.all.get(usize::from(replica)).map_or(0, |other| other.seen)
     }
 
-    /// A replica has told the greatest entry of this one that it saw in the present generation.
+    /// A replica has reported the greatest entry of this one that it saw in the present generation.
     pub fn hear_seen(&mut self, replica: u8, entry: u32) {
         if let Some(other) = self.all.get_mut(usize::from(replica)) {
             other.sees = entry;
         }
     }
 
-    /// What it has told so last.
+    /// What it has reported so last.
     pub fn sees(&self, replica: u8) -> u32 {
         self.all.get(usize::from(replica)).map_or(0, |other| other.sees)
     }
 
-    /// A replica has told how far it is. Whether it is the first time.
+    /// A replica has reported how far it is. Whether it is the first time.
     pub fn hear(&mut self, replica: u8, generation: u32, is_sealed: bool) -> bool {
         let Some(other) = self.all.get_mut(usize::from(replica)) else { return false };
         other.generation = generation;
@@ -92,14 +92,14 @@ impl Others {
         self.all.get(usize::from(replica)).map_or(0, |other| other.generation)
     }
 
-    /// Whether a replica has executed the seal of this generation, as far as it has told.
+    /// Whether a replica has executed the seal of this generation, as far as it has reported.
     pub fn has_sealed(&self, replica: u8, generation: u32) -> bool {
         let is_over =
             |other: &Other| other.generation > generation || (other.generation == generation && other.is_sealed);
         self.all.get(usize::from(replica)).is_some_and(is_over)
     }
 
-    /// Whether a replica that lags is to be told so now.
+    /// Whether a replica that lags is to be notified now.
     pub fn is_word_due(&mut self, replica: u8, now: Instant) -> bool {
         let Some(other) = self.all.get_mut(usize::from(replica)) else { return false };
         let is_due = other.greeted.is_none_or(|greeted| now >= greeted + BETWEEN_WORDS);

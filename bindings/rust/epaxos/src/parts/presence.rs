@@ -5,7 +5,7 @@
 pub enum Presence {
     /// Frames to it arrive, and it answers, or sends something else.
     There,
-    /// Frames to it arrive as far as the system tells, and nothing comes from it.
+    /// Frames to it arrive as far as the system reports, and nothing comes from it.
     Silent,
     /// There is no connection to it.
     Gone,

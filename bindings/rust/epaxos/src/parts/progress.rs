@@ -1,4 +1,4 @@
-//! How far a replica and its peers are in a generation, as frames and their hosts' messages tell.
+//! How far a replica and its peers are in a generation, as frames and their hosts' messages say.
 use crate::parts::batch::{Proposal, Request};
 use crate::parts::commits::{Commits, Committed, Lacking};
 use crate::parts::distances::Distances;
@@ -17,7 +17,7 @@ use std::time::{Duration, Instant};
 /// So many bytes of Commits are sent a peer again at once.
 const MOST_AGAIN: usize = 4 << 20;
 
-/// So many open instances are told at once.
+/// So many open instances are reported at once.
 const MOST_FOUND: u8 = 255;
 /// A pass over what the core knows, which each of these takes, is so long an entry at least.
 const PASS: Duration = Duration::from_nanos(10);
@@ -39,7 +39,7 @@ pub struct Counts {
 pub enum Came {
     /// The core is to take it.
     Frame(Head, Vec<u8>),
-    /// Its sender lags, and is to be told so.
+    /// Its sender lags, and is to be notified.
     Late,
     /// Nothing now.
     Nothing,
@@ -114,7 +114,7 @@ impl Progress {
         self.links.get(usize::from(peer)).is_some_and(|is_open| *is_open)
     }
 
-    /// Whether frames to a peer go out: its link is open, and it has told what it saw of this replica.
+    /// Whether frames to a peer go out: its link is open, and it has reported what it saw of this replica.
     pub fn is_reached(&self, peer: u8) -> bool {
         self.has_link(peer) && self.others.is_heard(peer)
     }
@@ -155,7 +155,7 @@ impl Progress {
         took.into_iter().for_each(|took| self.watch.measure(peer, took));
     }
 
-    /// A peer tells how far it is. Whether it is the first time.
+    /// A peer reports how far it is. Whether it is the first time.
     pub fn hear_hello(&mut self, peer: u8, (generation, is_sealed, seen): (u32, bool, u32)) -> bool {
         let is_first = self.others.hear(peer, generation, is_sealed);
         if generation == self.generation.number {
@@ -168,17 +168,17 @@ impl Progress {
     pub fn forgotten(&self, generation: u32, seen: u32) -> Option<u32> {
         let own = self.generation.number;
         let entries = if generation == own { self.generation.entries } else { 0 };
-        // (what a machine before this one has told isn't forgotten: it was another one's)
+        // (what a machine before this one has reported isn't forgotten: it was another one's)
         (own > 0 && generation >= own && seen > entries).then_some(entries)
     }
 
-    /// What is told a peer of how far this replica is.
+    /// What is reported to a peer of how far this replica is.
     pub fn hello(&self, peer: u8) -> Vec<u8> {
         let (generation, is_sealed) = (self.generation.number, self.generation.is_sealed());
         Message::Hello { generation, is_sealed, seen: self.others.seen(peer) }.write()
     }
 
-    /// What is told a peer of what is committed here, so that both get what they lack.
+    /// What is reported to a peer of what is committed here, so that both get what they lack.
     pub fn committed(&self) -> Vec<u8> {
         let (generation, committed) = (self.generation.number, self.commits.here.clone());
         Message::Committed { generation, committed }.write()
@@ -288,8 +288,8 @@ impl Progress {
         if is_lost { self.generation.lose_seal() } else { self.commit_seal() }
     }
 
-    /// A peer has told what is committed there. What is committed here by this replica's Commits is sent again where it
-    /// is lost: these frames. What isn't committed here comes so too, or is recovered.
+    /// A peer has reported what is committed there. What is committed here by this replica's Commits is sent again
+    /// where it is lost: these frames. What isn't committed here comes so too, or is recovered.
     ///
     /// # Errors
     ///

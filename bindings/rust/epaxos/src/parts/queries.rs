@@ -11,7 +11,7 @@ pub struct Report {
     pub open: Vec<OpenInstance>,
 }
 
-/// A core that is asked. What it tells of is on the disk.
+/// A core that is asked. What it reports is on the disk.
 pub trait Queries {
     type Fault;
 
@@ -38,9 +38,9 @@ impl Queries for Replica {
     type Fault = Fault;
 
     fn report(&mut self, after: u32, most: u8) -> Result<Report, Fault> {
-        let told = Replica::report(self, after, most)?;
-        let frames = told.frames().map(|frame| (frame.to, frame.bytes.to_vec())).collect();
-        Ok(Report { frames, committed: told.committed().collect(), open: told.open().collect() })
+        let output = Replica::report(self, after, most)?;
+        let frames = output.frames().map(|frame| (frame.to, frame.bytes.to_vec())).collect();
+        Ok(Report { frames, committed: output.committed().collect(), open: output.open().collect() })
     }
 
     fn handled(&mut self, peer: u8) -> Result<u32, Fault> {

@@ -8,23 +8,23 @@ use crate::{Instance, MOST_INSTANCES, OwnedReading};
 use std::collections::BTreeMap;
 use std::time::{Duration, Instant};
 
-/// What interferes is told in messages of so many instances, or of one key's where that has more.
-const MOST_TOLD: usize = 20_000;
+/// What interferes is reported in messages of so many instances, or of one key's where that has more.
+const MOST_REPORTED: usize = 20_000;
 
 /// A fault that is planted in reads, so that a trial can be seen to find it. Never for use.
 #[derive(Clone, Copy, PartialEq, Eq, Debug)]
 pub enum Plant {
     /// One replica fewer is asked than has to be.
     Fewer,
-    /// What the key has here is told.
+    /// What the key has here is answered.
     Local,
-    /// What the key had when the question was sent is told.
+    /// What the key had when the question was sent is answered.
     Before,
     /// A question serves reads that were asked later.
     Later,
     /// The last instance that was found isn't waited for.
     Partly,
-    /// What interferes is told of another generation.
+    /// What interferes is reported of another generation.
     Foreign,
 }
 
@@ -37,13 +37,13 @@ struct Planted {
     found: BTreeMap<Vec<u8>, Vec<Instance>>,
 }
 
-/// A key's value, and who is told it.
+/// A key's value, and who gets it.
 pub type Answered<T> = (Vec<T>, Option<Vec<u8>>);
 
-/// The reads of a replica, each with whom to tell.
+/// The reads of a replica, each with whom to answer.
 pub struct Reading<T> {
     reads: Reads<T>,
-    /// A number by which this start's questions are told from those of others.
+    /// A number by which this start's questions are distinguished from those of others.
     start: u32,
     plant: Option<Plant>,
     planted: Planted,
@@ -103,45 +103,45 @@ impl<T> Reading<T> {
         }
     }
 
-    /// What a peer is told that interferes here with reads of these keys, all of it on the disk. Of another generation
-    /// nothing is told: in a later one the reads are asked anew, and an earlier one may not know what has been done
-    /// since.
+    /// What is reported to a peer that interferes here with reads of these keys, all of it on the disk. Of another
+    /// generation nothing is reported: in a later one the reads are asked anew, and an earlier one may not know what
+    /// has been done since.
     ///
     /// # Errors
     ///
     /// What befell the core, as of each question.
-    pub fn tell<Q: Queries>(
+    pub fn report<Q: Queries>(
         &self,
         progress: &mut Progress,
         core: &mut Q,
         (generation, question): (u32, Question),
         keys: &[Vec<u8>],
     ) -> Result<Vec<Vec<u8>>, Q::Fault> {
-        let mut told = Vec::new();
+        let mut messages = Vec::new();
         if generation != progress.generation.number && self.plant != Some(Plant::Foreign) {
-            return Ok(told);
+            return Ok(messages);
         }
         if keys.len() > MOST_KEYS {
             progress.counts.refused += 1;
-            return Ok(told);
+            return Ok(messages);
         }
         let keys: Vec<&[u8]> = keys.iter().map(Vec::as_slice).collect();
         let mut lists = core.interfering(&keys)?.into_iter().peekable();
         let mut first = 0;
         while lists.peek().is_some() {
             let (mut some, mut count) = (Vec::new(), 0);
-            while let Some(list) = lists.next_if(|list| some.is_empty() || count + list.len() <= MOST_TOLD) {
+            while let Some(list) = lists.next_if(|list| some.is_empty() || count + list.len() <= MOST_REPORTED) {
                 count += list.len();
                 some.push(list);
             }
             let next = first + some.len() as u16;
-            told.push(Message::Find { generation, question, first, lists: some }.write());
+            messages.push(Message::Find { generation, question, first, lists: some }.write());
             first = next;
         }
-        Ok(told)
+        Ok(messages)
     }
 
-    /// A peer has told what interferes there.
+    /// A peer has reported what interferes there.
     pub fn hear(
         &mut self,
         progress: &mut Progress,
@@ -168,14 +168,14 @@ impl<T> Reading<T> {
         now: Instant,
     ) -> Result<Vec<(u8, Vec<u8>)>, Q::Fault> {
         let mut asked = Vec::new();
-        // (in a generation that ends they would only be told that it has)
+        // (in a generation that ends they would only be answered that it has)
         while self.reads.has_next() && !progress.generation.is_holding() && !progress.is_alone() {
             let keys = self.reads.next();
             let own = core.interfering(&keys)?;
             if self.plant == Some(Plant::Before) {
                 let reads: Vec<(&[u8], &[Instance])> = keys.iter().map(|key| (*key, &[][..])).collect();
-                let told = core.read(&reads)?;
-                self.planted.before.extend(keys.iter().map(|key| key.to_vec()).zip(told));
+                let values = core.read(&reads)?;
+                self.planted.before.extend(keys.iter().map(|key| key.to_vec()).zip(values));
             }
             let keys: Vec<Vec<u8>> = keys.into_iter().map(<[u8]>::to_vec).collect();
             let closest = self.closest(progress, now);
@@ -262,16 +262,17 @@ impl<T> Reading<T> {
             all.iter_mut().for_each(|it| it.found.clear());
         }
         let reads: Vec<(&[u8], &[Instance])> = all.iter().map(|it| (&it.key[..], &it.found[..])).collect();
-        let mut told = core.read(&reads)?;
+        let mut readings = core.read(&reads)?;
         if self.plant == Some(Plant::Before) {
-            let before = all.iter().zip(told).map(|(it, told)| self.planted.before.remove(&it.key).unwrap_or(told));
-            told = before.collect();
+            let before =
+                all.iter().zip(readings).map(|(it, reading)| self.planted.before.remove(&it.key).unwrap_or(reading));
+            readings = before.collect();
         }
-        for (found, told) in all.into_iter().zip(told) {
+        for (found, reading) in all.into_iter().zip(readings) {
             if self.plant == Some(Plant::Later) {
                 self.planted.found.insert(found.key.clone(), found.found.clone());
             }
-            match told {
+            match reading {
                 OwnedReading::Absent => answered.push((found.readers, None)),
                 OwnedReading::Present(value) => answered.push((found.readers, Some(value))),
                 OwnedReading::Closed => self.reads.ask_anew(found.key, found.readers),

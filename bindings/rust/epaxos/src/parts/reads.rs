@@ -15,13 +15,13 @@ const LATE: Duration = Duration::from_millis(30);
 /// and again and again, at most so long apart, as what was asked may be lost.
 const LONGEST_PAUSE: Duration = Duration::from_secs(1);
 
-/// Reads of one key that go together. Once enough have told what interferes with them, they are out of the question,
-/// where this keeps their place.
+/// Reads of one key that go together. Once enough have reported what interferes with them, they are out of the
+/// question, where this keeps their place.
 struct Reading<T> {
     key: Vec<u8>,
     readers: Vec<T>,
     /// Which replicas' answers are in `found`, by their bits.
-    told: u8,
+    answered: u8,
     /// What interferes, rising.
     found: Vec<Instance>,
     is_known: bool,
@@ -68,7 +68,7 @@ pub struct Again {
     pub to: Vec<u8>,
 }
 
-/// All reads of this replica that wait, each with whom to tell.
+/// All reads of this replica that wait, each with whom to answer.
 pub struct Reads<T> {
     /// So many others have to answer.
     others: u32,
@@ -158,7 +158,7 @@ impl<T> Reads<T> {
         let mut readings = Vec::with_capacity(own.len());
         for found in own {
             let Some((key, readers)) = self.waiting.pop_first() else { break };
-            readings.push(Reading { key, readers, told: 0, found, is_known: false });
+            readings.push(Reading { key, readers, answered: 0, found, is_known: false });
         }
         let pause = takes + takes.max(LATE);
         let asked = to.iter().fold(0, |all, replica| all | bit(*replica));
@@ -166,23 +166,23 @@ impl<T> Reads<T> {
         self.count
     }
 
-    /// A replica has told, of the question of this number, what interferes with the reads of its keys from one on.
+    /// A replica has answered, to the question of this number, what interferes with the reads of its keys from one on.
     pub fn hear(&mut self, from: u8, number: u64, first: usize, lists: &[Vec<Instance>]) {
         let Some(question) = self.questions.iter_mut().find(|it| it.number == number) else { return };
         for (reading, list) in question.readings.iter_mut().skip(first).zip(lists) {
-            if !reading.is_known && reading.told & bit(from) == 0 {
-                reading.told |= bit(from);
+            if !reading.is_known && reading.answered & bit(from) == 0 {
+                reading.answered |= bit(from);
                 merge(&mut reading.found, list);
             }
         }
         self.settle();
     }
 
-    /// Takes out what enough have told of.
+    /// Takes out what enough have answered.
     pub fn settle(&mut self) {
         let others = self.others;
         for question in &mut self.questions {
-            let is_known = |reading: &&mut Reading<T>| !reading.is_known && reading.told.count_ones() >= others;
+            let is_known = |reading: &&mut Reading<T>| !reading.is_known && reading.answered.count_ones() >= others;
             for reading in question.readings.iter_mut().filter(is_known) {
                 reading.is_known = true;
                 let (readers, found) = (std::mem::take(&mut reading.readers), std::mem::take(&mut reading.found));
@@ -199,14 +199,14 @@ impl<T> Reads<T> {
         let mut late = Vec::new();
         for question in &mut self.questions {
             let open = question.readings.iter().filter(|reading| !reading.is_known);
-            let told = open.fold(u8::MAX, |all, reading| all & reading.told);
-            let is_lost = question.asked & !told & !there != 0;
+            let answered = open.fold(u8::MAX, |all, reading| all & reading.answered);
+            let is_lost = question.asked & !answered & !there != 0;
             if now < question.again && !is_lost {
                 continue;
             }
             question.pause = (question.pause * 2).min(LONGEST_PAUSE);
             question.again = now + question.pause;
-            let to: Vec<u8> = peers.iter().copied().filter(|replica| told & bit(*replica) == 0).collect();
+            let to: Vec<u8> = peers.iter().copied().filter(|replica| answered & bit(*replica) == 0).collect();
             question.asked = there;
             let keys = question.readings.iter().map(|reading| reading.key.clone()).collect();
             late.push(Again { number: question.number, keys, to });
@@ -288,7 +288,7 @@ mod tests {
         numbers.iter().map(|number| instance(*number)).collect()
     }
 
-    /// Readers are told apart by numbers.
+    /// Readers are distinguished by numbers.
     fn ask(it: &mut Reads<u32>, key: &str, reader: u32) {
         it.ask(key.into(), reader);
     }
@@ -339,7 +339,7 @@ mod tests {
         assert!(it.late(&[1, 2, 4], due).is_empty());
         it.hear(4, number, 0, &[list(&[]), list(&[])]);
         assert!(it.late(&[1], due + LONGEST_PAUSE).is_empty() && it.questions() == 0);
-        // One that has told may go.
+        // One that has answered may go.
         ask(&mut it, "z", 3);
         let number = it.send(vec![list(&[])], &[1, 2], SOON, now);
         it.hear(1, number, 0, &[list(&[])]);

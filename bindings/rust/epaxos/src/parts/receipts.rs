@@ -1,4 +1,4 @@
-//! The file of receipts: what clients were told, for `epaxos collect`.
+//! The file of receipts: what clients were answered, for `epaxos collect`.
 use crate::parts::receipts_fault::ReceiptsFault;
 use crate::{Fields, LONGEST_VALUE, MOST_TOLD, Receipt};
 use std::fs::{File, OpenOptions};
@@ -135,7 +135,7 @@ mod tests {
         fs::write(&path, &bytes).unwrap();
         assert!(matches!(open(&path), Err(ReceiptsFault::NotReceipts(_, 0))));
         assert!(fs::read(&path).unwrap() == bytes);
-        // One of a command over many keys tells of sixteen values at most.
+        // One of a command over many keys reports sixteen values at most.
         let mut many = receipt(b"");
         many.truncate(ANSWER);
         many.extend([5, 0, 16]);

@@ -1,6 +1,6 @@
 //! How much the map may grow, where it is bounded, so that it never passes what it may have: a generation begins with a
 //! map whose length all know, and each replica's commands may add its share of the room that there is then. What a
-//! command has changed its answer tells, so nothing is estimated.
+//! command has changed its answer says, so nothing is estimated.
 use crate::parts::opening::OF_A_KEY;
 use crate::{Answer, Command, Item, OwnedCommand, Tx, Values};
 use std::time::{Duration, Instant};
@@ -8,7 +8,7 @@ use std::time::{Duration, Instant};
 /// Where a generation begins with one part in so many of room at least, the next one may share out what is left; with
 /// less the map is full.
 const LEAST_PART: u64 = 16;
-/// Where the map is full, the next generation tells what others have deleted, so long after the present one has begun.
+/// Where the map is full, the next generation shows what others have deleted, so long after the present one has begun.
 pub const FULL_PAUSE: Duration = Duration::from_secs(30);
 
 /// What comes of a command.
@@ -123,8 +123,8 @@ fn cost(command: &OwnedCommand) -> i64 {
 
 /// By how many bytes a command has made it longer, which was answered so.
 pub(crate) fn growth(command: &Command, answer: &Answer) -> i64 {
-    if let (Command::Tx(tx), Answer::Done(told)) = (command, answer) {
-        return growth_of(tx, told);
+    if let (Command::Tx(tx), Answer::Done(values)) = (command, answer) {
+        return growth_of(tx, values);
     }
     let before = match answer {
         Answer::Present(value) => Some(*value),
@@ -140,13 +140,13 @@ pub(crate) fn growth(command: &Command, answer: &Answer) -> i64 {
     }
 }
 
-/// Likewise of one over many keys that was done. What is written to more keys than it tells of, and had nothing
+/// Likewise of one over many keys that was done. What is written to more keys than it reports, and had nothing
 /// required of it, counts as new: so the map has grown by this at most.
-fn growth_of(tx: &Tx, told: &Values) -> i64 {
-    let mut told = told.iter();
+fn growth_of(tx: &Tx, values: &Values) -> i64 {
+    let mut values = values.iter();
     let of = |item: Item| {
-        let told = if item.is_told { told.next().flatten() } else { None };
-        let before = item.required.unwrap_or(told);
+        let reported = if item.is_told { values.next().flatten() } else { None };
+        let before = item.required.unwrap_or(reported);
         item.written.map_or(0, |new| length(item.key, new) - length(item.key, before))
     };
     tx.items().map(of).sum()
@@ -198,7 +198,7 @@ mod tests {
         assert_eq!((cost(&longer), cost(&shorter)), (500, 0));
         assert_eq!(growth(&longer.lent(), &Answer::Present(&[2; 494])), 0);
         assert_eq!(growth(&shorter.lent(), &Answer::Present(&[1; 494])), -500);
-        // After a start nobody knows what was added: the next generation tells.
+        // After a start nobody knows what was added: the next generation shows it.
         room.resume(100, 3);
         assert_eq!((room.judge(&small), room.judge(&del("a"))), (Judgement::NextGeneration, Judgement::Fits));
         // A sixteenth is left, and less; or no share of it takes the command.
@@ -222,11 +222,11 @@ mod tests {
         let command = tx.put(b"c", &[1; 5]).del(b"d").tell(b"d").build().unwrap();
         // A key of a byte takes six with its value: a gets 20 longer, b and c may be new.
         assert_eq!(cost(&command), 20 + 11 + 11);
-        let told = OwnedValues::new([Some(vec![1; 7]), Some(vec![1; 4])]).unwrap();
+        let values = OwnedValues::new([Some(vec![1; 7]), Some(vec![1; 4])]).unwrap();
         let growth = |answer: OwnedAnswer| growth(&command.lent(), &answer.lent());
         // (b had 2 more, c counts as new, and d had 10)
-        assert_eq!(growth(OwnedAnswer::Done(told.clone())), 20 - 2 + 11 - 10);
-        assert_eq!(growth(OwnedAnswer::Undone(told)), 0);
+        assert_eq!(growth(OwnedAnswer::Done(values.clone())), 20 - 2 + 11 - 10);
+        assert_eq!(growth(OwnedAnswer::Undone(values)), 0);
     }
 
     /// Replicas in turns, whose commands are done on one map in another order than they were judged in.

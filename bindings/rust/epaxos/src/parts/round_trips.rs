@@ -88,7 +88,7 @@ mod tests {
         assert_eq!(it.answer(OWN, 2, start + ms(90)), None);
         assert_eq!(it.answer(OWN, 4, start + ms(90)), None);
         assert_eq!(it.answers(OWN), Some(1));
-        // One that comes late tells how far its sender is all the same.
+        // One that comes late shows how far its sender is all the same.
         it.pass_first(OWN);
         assert_eq!((it.answer(OWN, 1, start + ms(500)), it.answers(OWN)), (Some(ms(500)), None));
         assert_eq!(it.spared(OWN), Some(4));

@@ -6,7 +6,7 @@
 //! label: a length in 4 bytes, a kind in one, so many bytes, and the first 16 bytes of an HMAC over the message's
 //! number in this direction and all of it. So a message that was turned, left out, repeated, put in another order
 //! or sent back is refused, and the connection ends. The first message of whoever connects is its proof. A stranger
-//! is told bytes by chance and a proof that serves nobody else: no identity, and nothing that a second connection
+//! is sent bytes by chance and a proof that serves nobody else: no identity, and nothing that a second connection
 //! could use. A cluster without a key has zeros in the place of a message's HMAC, as anybody could make that.
 //!
 //! What is sent isn't encrypted.
@@ -70,7 +70,7 @@ impl<M: Mac> Key<M> {
         Key { mac: M::keyed(bytes), is_none: false }
     }
 
-    /// The HMAC over a label and what both ends have told.
+    /// The HMAC over a label and what both ends have sent.
     fn hmac(&self, label: &[u8], hello: &Hello, nonce: &[u8; NONCE]) -> [u8; PROOF] {
         let mut mac = self.mac.clone();
         for part in [label, &hello.0, nonce] {
@@ -250,10 +250,10 @@ mod tests {
         let (mut near, mut far) = UnixStream::pair().unwrap();
         let hello = Hello::new(MAGIC, [3, 2, 1]).unwrap();
         let mut listener = answer(&mut far, &key(), &hello).unwrap();
-        let mut told = [0; NONCE + PROOF];
-        near.read_exact(&mut told).unwrap();
+        let mut sent = [0; NONCE + PROOF];
+        near.read_exact(&mut sent).unwrap();
         for other in [Key::of(b""), Key::none()] {
-            let (mut forged, _) = directions(&other, &hello, told.first_chunk().unwrap());
+            let (mut forged, _) = directions(&other, &hello, sent.first_chunk().unwrap());
             assert_eq!(refused(&mut listener.receiving, &written(&mut forged, b"frame")), io::ErrorKind::InvalidData);
         }
     }

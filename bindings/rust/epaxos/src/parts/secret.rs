@@ -38,13 +38,13 @@ impl std::error::Error for KeyFault {}
 
 /// The secret of a file, which only its owner and its group may read, without blanks at its end.
 pub fn read_secret(path: &Path) -> Result<Vec<u8>, KeyFault> {
-    let told = |error| KeyFault::Unreadable(path.to_path_buf(), error);
-    let file = File::open(path).map_err(told)?;
-    if is_open(&file.metadata().map_err(told)?) {
+    let unreadable = |error| KeyFault::Unreadable(path.to_path_buf(), error);
+    let file = File::open(path).map_err(unreadable)?;
+    if is_open(&file.metadata().map_err(unreadable)?) {
         return Err(KeyFault::Open(path.to_path_buf()));
     }
     let mut bytes = Vec::new();
-    file.take(LONGEST + 1).read_to_end(&mut bytes).map_err(told)?;
+    file.take(LONGEST + 1).read_to_end(&mut bytes).map_err(unreadable)?;
     let secret = bytes.trim_ascii_end();
     match secret.len() as u64 {
         SHORTEST..=LONGEST => Ok(secret.to_vec()),
@@ -58,7 +58,7 @@ fn is_open(about: &Metadata) -> bool {
     about.permissions().mode() & 0o007 != 0
 }
 
-/// (Elsewhere who may read a file isn't told.)
+/// (Elsewhere who may read a file isn't known.)
 #[cfg(not(unix))]
 fn is_open(_: &Metadata) -> bool {
     false

@@ -1,9 +1,9 @@
-//! What of a generation its opening doesn't tell any more: how long the map is, and what was done.
+//! What of a generation its opening doesn't have any more: how long the map is, and what was done.
 use crate::parts::room::growth;
 use crate::{Command, Executed, Instance};
 use std::collections::HashSet;
 
-/// What a replica has done in a generation, of which the next opening tells.
+/// What a replica has done in a generation, which the next opening has.
 #[derive(Clone, Default, PartialEq, Eq, Debug)]
 pub struct Tally {
     /// How many bytes all keys with their values take, as in an opening.

@@ -19,9 +19,9 @@ pub(super) const SHORTEST_FRAME: usize = 3;
 pub(super) const LONGEST_FRAME: usize = 400_000;
 /// For all of a greeting, which comes as soon as the connection is there.
 const GREETING_PATIENCE: Duration = Duration::from_secs(5);
-/// Between two messages by which the receiving end tells that it is there.
+/// Between two messages by which the receiving end says that it is there.
 const BEATS: Duration = Duration::from_secs(1);
-/// Strangers of one kind are told of once in so long.
+/// Strangers of one kind are logged once in so long.
 const SILENT: Duration = Duration::from_secs(60);
 /// At most so many connections that nobody has greeted on: one more ends the oldest of them.
 pub(super) const MOST_STRANGERS: usize = 64;
@@ -32,8 +32,8 @@ pub struct TcpReceiver<E> {
     /// The connection of each replica.
     current: Vec<Mutex<Option<TcpStream>>>,
     strangers: Mutex<Strangers>,
-    /// When strangers were told of last, by what was told.
-    told: Mutex<HashMap<&'static str, Instant>>,
+    /// When strangers were logged last, by what was logged.
+    reported: Mutex<HashMap<&'static str, Instant>>,
     is_ended: AtomicBool,
 }
 
@@ -47,8 +47,8 @@ struct Strangers {
 impl<E: Ends> TcpReceiver<E> {
     pub fn new(ends: Arc<E>) -> TcpReceiver<E> {
         let current = (0..MOST_REPLICAS).map(|_| Mutex::default()).collect();
-        let (strangers, told, is_ended) = (Mutex::default(), Mutex::default(), AtomicBool::new(false));
-        TcpReceiver { ends, current, strangers, told, is_ended }
+        let (strangers, reported, is_ended) = (Mutex::default(), Mutex::default(), AtomicBool::new(false));
+        TcpReceiver { ends, current, strangers, reported, is_ended }
     }
 
     /// Takes connections of other replicas, each in a thread, until it is ended and one more has come. A new one of a
@@ -120,7 +120,7 @@ impl<E: Ends> TcpReceiver<E> {
     }
 
     /// Reads a greeting and answers it: the replica that greets, if it has the key and its frames are taken. Whoever
-    /// hasn't the key is told nothing about this replica.
+    /// hasn't the key learns nothing about this replica.
     fn greet(&self, stream: &TcpStream) -> io::Result<Option<(u8, E::Who, Channel<E::Mac>)>> {
         stream.set_nodelay(true)?;
         stream.set_write_timeout(Some(WRITE_PATIENCE))?;
@@ -141,15 +141,15 @@ impl<E: Ends> TcpReceiver<E> {
         Ok(who.map(|who| (from, who, channel)))
     }
 
-    /// Tells of a stranger; of others like it after a while again.
+    /// Logs a stranger; of others like it after a while again.
     fn complain(&self, stream: &TcpStream, what: &'static str, more: &str) -> io::Result<()> {
-        let mut told = self.told.lock().unwrap_or_else(PoisonError::into_inner);
-        let is_due = told.get(what).is_none_or(|at| at.elapsed() >= SILENT);
+        let mut reported = self.reported.lock().unwrap_or_else(PoisonError::into_inner);
+        let is_due = reported.get(what).is_none_or(|at| at.elapsed() >= SILENT);
         if is_due {
-            told.insert(what, Instant::now());
+            reported.insert(what, Instant::now());
             let (from, silent) = (stream.peer_addr()?, SILENT.as_secs());
             let again = format!("(further ones aren't logged for {silent} s)");
-            self.ends.tell(false, &format!("a connection from {from} to the peers' port {what}{more} {again}"));
+            self.ends.log(false, &format!("a connection from {from} to the peers' port {what}{more} {again}"));
         }
         Ok(())
     }
@@ -197,7 +197,7 @@ impl<E: Ends> TcpReceiver<E> {
     }
 }
 
-/// Tells the other end that this one is there, until the connection is over.
+/// Says to the other end that this one is there, until the connection is over.
 fn beat<M: Mac>(mut stream: TcpStream, mut sending: Direction<M>) {
     let mut message = Vec::new();
     while sending.write(&mut message, BEAT, &[]).is_ok() && stream.write_all(&message).is_ok() {

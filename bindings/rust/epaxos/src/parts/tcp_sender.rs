@@ -36,7 +36,7 @@ pub(super) const BEAT: u8 = 2;
 pub(super) const LONGEST_GREETING: usize = 64;
 const CONNECT_PATIENCE: Duration = Duration::from_secs(2);
 pub(super) const WRITE_PATIENCE: Duration = Duration::from_secs(5);
-/// A peer that tells nothing for so long is lost.
+/// A peer that sends nothing for so long is lost.
 const SILENCE: Duration = Duration::from_secs(5);
 pub(super) const LEAST_PAUSE: Duration = Duration::from_millis(20);
 const GREATEST_PAUSE: Duration = Duration::from_millis(500);
@@ -230,7 +230,7 @@ impl<E: Ends> TcpSender<E> {
         self.queue.lock().unwrap_or_else(PoisonError::into_inner)
     }
 
-    /// Tells the thread that sends, where it waits: each word takes a call of the system. (Told while the queue is
+    /// Wakes the thread that sends, where it waits: each word takes a call of the system. (Woken while the queue is
     /// locked, the thread would wait for that.)
     fn wake(&self, mut queue: MutexGuard<'_, Queue<E::Mac>>) {
         let is_awaited = std::mem::take(&mut queue.is_awaited);
@@ -244,8 +244,8 @@ impl<E: Ends> TcpSender<E> {
         self.address.lock().unwrap_or_else(PoisonError::into_inner)
     }
 
-    fn tell(&self, is_well: bool, what: &str) {
-        self.ends.tell(is_well, &format!("peer {} at {} {what}", self.to, self.address()));
+    fn log(&self, is_well: bool, what: &str) {
+        self.ends.log(is_well, &format!("peer {} at {} {what}", self.to, self.address()));
     }
 
     /// Connects, sends until the connection is lost, and again.
@@ -260,12 +260,12 @@ impl<E: Ends> TcpSender<E> {
             {
                 was_refused = true;
                 let of_keys = if *fault == ConnectFault::OtherKey { E::OF_KEYS } else { "" };
-                self.tell(false, &format!("{fault}{of_keys}"));
+                self.log(false, &format!("{fault}{of_keys}"));
             }
             if let Ok((stream, channel)) = connected {
                 was_refused = false;
                 pause = LEAST_PAUSE;
-                self.tell(true, if was_lost { "regained" } else { "reached" });
+                self.log(true, if was_lost { "regained" } else { "reached" });
                 self.is_reached.store(true, Ordering::Relaxed);
                 if !self.ends.happen(Happened::Reached(self.to)) {
                     return;
@@ -276,7 +276,7 @@ impl<E: Ends> TcpSender<E> {
                     return;
                 }
                 was_lost = true;
-                self.tell(false, &format!("lost: {cause}"));
+                self.log(false, &format!("lost: {cause}"));
             }
             if self.rest(pause) {
                 return;
@@ -351,7 +351,7 @@ impl<E: Ends> TcpSender<E> {
     }
 }
 
-/// Hears the other end tell that it is there, until it doesn't: why.
+/// Hears the other end say that it is there, until it doesn't: why.
 fn heard_out<M: Mac>(stream: impl Read, mut receiving: Direction<M>) -> LinkFault {
     let mut reader = BufReader::with_capacity(64, stream);
     loop {

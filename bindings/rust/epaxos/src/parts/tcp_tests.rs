@@ -58,7 +58,7 @@ fn connect(sender: &TcpSender<Near>) -> Result<(TcpStream, Channel<Hmac>), Conne
     for _ in 0..20 {
         match sender.connect() {
             Err(ConnectFault::Failed) => {}
-            told => return told,
+            other => return other,
         }
     }
     Err(ConnectFault::Failed)
@@ -138,7 +138,7 @@ fn strangers_keep_no_peer_out() {
     let strangers: Vec<_> = (0..2 * MOST_STRANGERS).map(|_| TcpStream::connect(&address).unwrap()).collect();
     let first = &strangers[0];
     first.set_read_timeout(Some(SILENCE)).unwrap();
-    // The oldest were closed, and told nothing.
+    // The oldest were closed, and sent nothing.
     assert_eq!((&mut &*first).read(&mut [0; 64]).unwrap_or(0), 0);
     assert!(connect(&sender(address, b"")).is_ok());
     assert!(receiver.count_strangers() <= MOST_STRANGERS);
@@ -194,16 +194,16 @@ fn it_is_idle_once_all_is_written() {
 #[test]
 fn what_is_ended_is_over_at_both_ends() {
     let (receiver, happened, address) = listening(b"");
-    let (here, told) = near(0, b"");
+    let (here, events) = near(0, b"");
     let sender = TcpSender::start(1, address, here).unwrap();
-    assert_eq!(told.recv(), Ok(Happened::Reached(1)));
+    assert_eq!(events.recv(), Ok(Happened::Reached(1)));
     assert!(happened.iter().any(|it| it == Happened::Called(0)));
     receiver.end();
-    assert_eq!(told.recv(), Ok(Happened::Lost(1)));
+    assert_eq!(events.recv(), Ok(Happened::Lost(1)));
     sender.end();
     drop(sender);
-    // (the thread has gone, and what it would tell with it)
-    assert!(told.iter().all(|it| matches!(it, Happened::Reached(1) | Happened::Lost(1))));
+    // (the thread has gone, and what it would report with it)
+    assert!(events.iter().all(|it| matches!(it, Happened::Reached(1) | Happened::Lost(1))));
 }
 
 #[test]

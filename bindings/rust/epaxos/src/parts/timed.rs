@@ -32,7 +32,7 @@ pub fn read_some(stream: &mut (impl Read + ?Sized), bytes: &mut [u8]) -> io::Res
     loop {
         match stream.read(bytes) {
             Err(error) if error.kind() == io::ErrorKind::Interrupted => {}
-            told => return told,
+            other => return other,
         }
     }
 }

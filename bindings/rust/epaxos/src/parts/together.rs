@@ -1,5 +1,5 @@
 //! What clients write to different keys, proposed as one command of the protocol: it takes one instance, one frame to
-//! each peer and one entry of each log. Its answer tells what each key had before, as that of a write by itself does.
+//! each peer and one entry of each log. Its answer reports what each key had before, as that of a write by itself does.
 //!
 //! Only what is written whatever was there goes together. A comparison doesn't: in one command either all is done or
 //! nothing, so one that finds another value would undo what everybody else has written.
@@ -19,7 +19,7 @@ pub trait Asked {
     fn command(&self) -> &OwnedCommand;
 }
 
-/// What is proposed as one command, and whose it is: in the order in which its answer tells of their keys.
+/// What is proposed as one command, and whose it is: in the order in which its answer has their keys.
 pub struct Whole<M> {
     pub members: Vec<M>,
     pub command: OwnedCommand,
@@ -27,7 +27,7 @@ pub struct Whole<M> {
 
 /// Commands that are to go together.
 pub struct Together<M> {
-    /// So many at most, which is no more than a command tells of.
+    /// So many at most, which is no more than a command reports.
     most: usize,
     members: Vec<M>,
     keys: HashSet<Vec<u8>>,
@@ -103,7 +103,7 @@ impl<M: Asked> Whole<M> {
     }
 }
 
-/// What each of so many members is told, in their order, where the whole was answered so.
+/// What each of so many members is answered, in their order, where the whole was answered so.
 pub fn answers(answer: OwnedAnswer, members: usize) -> Vec<OwnedAnswer> {
     match answer {
         OwnedAnswer::Done(values) if members > 1 => {
@@ -156,11 +156,11 @@ mod tests {
     }
 
     #[test]
-    fn each_is_told_of_its_key() {
+    fn each_gets_the_answer_of_its_key() {
         let values = OwnedValues::new([Some("1"), None]).unwrap();
-        let told = OwnedAnswer::Done(values);
-        assert_eq!(answers(told.clone(), 2), [OwnedAnswer::Present(b"1".to_vec()), OwnedAnswer::Absent]);
-        assert_eq!(answers(told.clone(), 1), [told]);
+        let whole = OwnedAnswer::Done(values);
+        assert_eq!(answers(whole.clone(), 2), [OwnedAnswer::Present(b"1".to_vec()), OwnedAnswer::Absent]);
+        assert_eq!(answers(whole.clone(), 1), [whole]);
         assert_eq!(answers(OwnedAnswer::Closed, 3), [OwnedAnswer::Closed, OwnedAnswer::Closed, OwnedAnswer::Closed]);
     }
 

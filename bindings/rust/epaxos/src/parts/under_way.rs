@@ -11,7 +11,7 @@ const MOST_BYTES: usize = 2 << 20;
 /// A command that is under way.
 pub struct Waiting<M> {
     pub instance: Instance,
-    /// Whose command it is, in the order in which its answer tells of their keys.
+    /// Whose command it is, in the order in which its answer has their keys.
     pub members: Vec<M>,
     pub command: OwnedCommand,
     /// How many bytes its keys and its values have.

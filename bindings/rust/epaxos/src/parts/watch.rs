@@ -1,8 +1,8 @@
 //! Watches over open instances. What is late, and what is done about it, the library's patience decides, by the round
 //! trips that are measured here.
 //!
-//! The core finds all that is open by passes over all that it knows. A host that notes here what frames tell of has it
-//! look so but now and then, for what others depend on and no frame told.
+//! The core finds all that is open by passes over all that it knows. A host that notes here what frames name has it
+//! look so but now and then, for what others depend on and no frame named.
 use crate::parts::coarse::Coarse;
 use crate::parts::place::Place;
 use crate::parts::presence::Presence;
@@ -13,7 +13,7 @@ use std::time::{Duration, Instant};
 
 /// Between two looks for open instances, each of which takes the core several passes over all that it knows.
 const BETWEEN_LOOKS: Duration = Duration::from_millis(30);
-/// The same where it is noted what frames tell, and what executions wait for.
+/// The same where it is noted what frames report, and what executions wait for.
 const BETWEEN_WHOLE_LOOKS: Duration = Duration::from_secs(5);
 /// Looking may take at most one part in so many of the time.
 const SHARE_OF_LOOKS: u32 = 40;
@@ -21,12 +21,12 @@ const SHARE_OF_LOOKS: u32 = 40;
 /// of another's instance, or the members that were asked for their votes on an own one. A machine that is overloaded
 /// gets slow; the same work once more would make it slower.
 const TRUST: Duration = Duration::from_secs(3);
-/// An answer that took longer counts as so long: its machine stood still, which tells nothing of how far it is. Else
+/// An answer that took longer counts as so long: its machine stood still, which shows nothing of how far it is. Else
 /// what is lost next would be waited for by time-outs as long.
 const MOST_MEASURED: Duration = TRUST;
 /// What a replica leads that is gone is recovered so long after, as what it has sent may still come: by the next one
 /// behind it, and by each further one so much later, as those before it may not know of the instance. What they begin
-/// is told meanwhile.
+/// is reported meanwhile.
 const AFTER_LOSS: Duration = Duration::from_millis(20);
 const BETWEEN_HEIRS: Duration = Duration::from_millis(150);
 /// At most so many at once.
@@ -43,7 +43,7 @@ enum Judge {
 pub struct Watch {
     place: Place,
     judge: Judge,
-    /// Times are told to the library since then.
+    /// Times are given to the library since then.
     start: Instant,
     round_trips: RoundTrips,
     /// Of each replica whether it is there, since when, and when the connection to it was opened last.
@@ -53,8 +53,8 @@ pub struct Watch {
     /// When the library is to be asked again, as something was noted. None: nothing was.
     noted: Option<Instant>,
     asked: Instant,
-    /// Those that a peer tells to be committed. The node may know nothing of them, so that no look finds them.
-    told: BTreeSet<Instance>,
+    /// Those that a peer reports to be committed. The node may know nothing of them, so that no look finds them.
+    committed: BTreeSet<Instance>,
     /// Since when others' instances were seen open.
     since: BTreeMap<Instance, Instant>,
     /// What somebody has begun to recover: nobody is heir to it any more.
@@ -93,7 +93,7 @@ impl Watch {
             open: Vec::new(),
             noted: None,
             asked: now,
-            told: BTreeSet::new(),
+            committed: BTreeSet::new(),
             since: BTreeMap::new(),
             inherited: BTreeSet::new(),
             is_hurried: false,
@@ -115,7 +115,7 @@ impl Watch {
     pub fn begin(&mut self, now: Instant) {
         self.open.clear();
         self.noted = None;
-        self.told.clear();
+        self.committed.clear();
         self.since.clear();
         self.inherited.clear();
         self.found.clear();
@@ -172,7 +172,7 @@ impl Watch {
         self.next_look = now + BETWEEN_LOOKS.max(cost * SHARE_OF_LOOKS);
     }
 
-    /// The same, where what frames tell is noted.
+    /// The same, where what frames report is noted.
     pub fn end_whole_look(&mut self, cost: Duration, now: Instant) {
         self.next_look = now + BETWEEN_WHOLE_LOOKS.max(cost * SHARE_OF_LOOKS);
     }
@@ -183,7 +183,7 @@ impl Watch {
         self.found.extend(&self.open[from..]);
     }
 
-    /// A frame tells of an instance that isn't committed here. `led`: how it is led here now, if the frame changes
+    /// A frame names an instance that isn't committed here. `led`: how it is led here now, if the frame changes
     /// that.
     pub fn note(&mut self, instance: Instance, led: Option<Option<Phase>>, now: Instant) {
         let leading = |phase: Phase| Leading { phase, answers: 0 };
@@ -244,16 +244,16 @@ impl Watch {
         }
     }
 
-    /// A peer tells that these are committed, which they aren't here.
+    /// A peer reports that these are committed, which they aren't here.
     pub fn hear(&mut self, instances: impl IntoIterator<Item = Instance>) {
-        let before = self.told.len();
-        self.told.extend(instances);
-        self.is_due |= self.told.len() > before;
+        let before = self.committed.len();
+        self.committed.extend(instances);
+        self.is_due |= self.committed.len() > before;
     }
 
     /// It is committed.
     pub fn forget(&mut self, instance: Instance) {
-        self.told.remove(&instance);
+        self.committed.remove(&instance);
         self.since.remove(&instance);
         self.inherited.remove(&instance);
         if let Ok(place) = self.open.binary_search_by_key(&instance, |it| it.instance) {
@@ -262,7 +262,7 @@ impl Watch {
         if let Ok(place) = self.found.binary_search_by_key(&instance, |it| it.instance)
             && place + 1 < self.found.len()
         {
-            // (the last one tells where the look goes on)
+            // (the last one shows where the look goes on)
             self.found.remove(place);
         }
     }
@@ -362,12 +362,12 @@ impl Watch {
         let open: Vec<OpenInstance> = self.open.iter().filter(is_waited_for).copied().collect();
         let mut late = match &mut self.judge {
             Judge::Patience(patience) => {
-                let told: Vec<Instance> = self.told.iter().copied().collect();
+                let committed: Vec<Instance> = self.committed.iter().copied().collect();
                 // (where there is no memory, it is asked again)
-                patience.turn(time, &open, &told).unwrap_or_default()
+                patience.turn(time, &open, &committed).unwrap_or_default()
             }
             Judge::Coarse(coarse) => {
-                coarse.turn(now, open.iter().map(|open| open.instance).chain(self.told.iter().copied()))
+                coarse.turn(now, open.iter().map(|open| open.instance).chain(self.committed.iter().copied()))
             }
         };
         late.extend(self.inherit(now, &late));
@@ -375,15 +375,15 @@ impl Watch {
         late
     }
 
-    /// How many aren't committed here, where the node tells that these are open.
+    /// How many aren't committed here, where the node reports that these are open.
     pub fn count_with(&self, open: &[OpenInstance]) -> usize {
         let is_open = |instance: &Instance| open.iter().any(|it| it.instance == *instance);
-        open.len() + self.told.iter().filter(|instance| !is_open(instance)).count()
+        open.len() + self.committed.iter().filter(|instance| !is_open(instance)).count()
     }
 
     pub fn count(&self) -> usize {
         let is_open = |instance: &&Instance| self.open.binary_search_by_key(*instance, |it| it.instance).is_ok();
-        self.open.len() + self.told.len() - self.told.iter().filter(is_open).count()
+        self.open.len() + self.committed.len() - self.committed.iter().filter(is_open).count()
     }
 
     fn time(&self, now: Instant) -> u64 {
@@ -427,7 +427,7 @@ mod tests {
         it.end_look(Duration::ZERO, now);
     }
 
-    /// What the library refuses is told, and nothing goes by constants in its place.
+    /// What the library refuses is reported, and nothing goes by constants in its place.
     #[test]
     fn where_there_is_no_patience_there_is_no_watch() {
         let made = Watch::new(Place { replicas: 3, replica: 3 }, Instant::now(), 1);
@@ -479,7 +479,7 @@ mod tests {
         assert_eq!(it.count(), 0);
     }
 
-    /// What frames tell of is open as what a look has found is, and the library is asked as often.
+    /// What frames name is open as what a look has found is, and the library is asked as often.
     #[test]
     fn what_is_noted_is_open() {
         let now = Instant::now();
@@ -500,7 +500,7 @@ mod tests {
         assert_eq!(leads(&it), [None, None]);
         assert_eq!((it.take_late(later), it.since.get(&OTHER)), (vec![], Some(&now)));
         assert!(it.next().is_some_and(|due| due > later));
-        // A look that finds as many as can be told leaves those above.
+        // A look that finds as many as can be reported leaves those above.
         it.change();
         assert!(it.is_changed() && !it.is_look_due(later) && it.is_look_due(now + BETWEEN_WHOLE_LOOKS));
         assert_eq!(it.after(), None);

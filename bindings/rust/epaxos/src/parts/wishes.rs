@@ -1,4 +1,4 @@
-//! What is asked of the next generation: who takes part in it, and how many do. A seal's value tells it
+//! What is asked of the next generation: who takes part in it, and how many do. A seal's value says it
 //! ([`Members`](crate::parts::members::Members)).
 use crate::parts::identity::{Identity, digits};
 use crate::parts::members::{Member, Members};
@@ -6,7 +6,7 @@ use crate::parts::place::Place;
 use std::collections::BTreeSet;
 use std::fmt;
 
-/// Who asked for something is told no once so many generations have begun without it.
+/// Who asked for something is answered no once so many generations have begun without it.
 const MOST_GENERATIONS: u32 = 3;
 
 /// What is asked for.
@@ -200,19 +200,19 @@ impl<T> Wishes<T> {
     /// A generation has begun that names these: who asked for something that is so by now, or that others have
     /// overruled. The rest is asked for again.
     pub fn fulfil(&mut self, generation: u32, named: &Members) -> Vec<(T, Result<(), ChangeFault>)> {
-        let mut told = Vec::new();
+        let mut outcomes = Vec::new();
         for wish in std::mem::take(&mut self.0) {
             let is_named = |(replica, member): &(u8, Member)| named.0.get(usize::from(*replica)) == Some(member);
             let has_size = wish.change.size.is_none_or(|size| usize::from(size) == named.0.len());
             if generation > wish.generation && has_size && wish.change.members.iter().all(is_named) {
-                told.push((wish.asker, Ok(())));
+                outcomes.push((wish.asker, Ok(())));
             } else if generation >= wish.generation + MOST_GENERATIONS {
-                told.push((wish.asker, Err(ChangeFault::Overruled)));
+                outcomes.push((wish.asker, Err(ChangeFault::Overruled)));
             } else {
                 self.0.push(wish);
             }
         }
-        told
+        outcomes
     }
 
     /// All that is asked for, with the size that is wanted, where one is; then nothing is.
@@ -364,7 +364,7 @@ mod tests {
         machines.named = wishes.next(&machines);
         assert_eq!(wishes.fulfil(6, &machines.named), [("a", Ok(()))]);
         assert_eq!(wishes.change(replace(2, 9, false), &machines), Ok(None));
-        // Who is overruled is told so.
+        // Who is overruled is answered so.
         wishes.ask(6, Change { size: Some(5), ..Change::default() }, "b");
         assert!(wishes.fulfil(8, &machines.named).is_empty());
         assert_eq!(wishes.fulfil(9, &machines.named), [("b", Err(ChangeFault::Overruled))]);

@@ -1,9 +1,9 @@
-//! Why somebody who asks isn't told an answer.
+//! Why somebody who asks gets no answer.
 use crate::host::Refusal;
 use std::error::Error;
 use std::fmt;
 
-/// Why somebody who asks isn't told an answer.
+/// Why somebody who asks gets no answer.
 ///
 /// ```
 /// use epaxos::host::Refusal;

@@ -76,8 +76,8 @@ impl Folder {
         Ok(Folder { files: ReadFolder(path), _lock: Arc::new(lock), log: None, receipts: None, made: Arc::default() })
     }
 
-    /// The same, with the file `receipts`, to which what clients are told is appended: for an audit. One that a crash
-    /// has cut off is dropped. A host that is audited also keeps all its generations
+    /// The same, with the file `receipts`, to which what clients are answered is appended: for an audit. One that a
+    /// crash has cut off is dropped. A host that is audited also keeps all its generations
     /// ([`Settings::kept`](crate::host::Settings::kept)).
     ///
     /// # Errors

@@ -32,8 +32,8 @@ impl Service {
         &self,
         command: OwnedCommand,
     ) -> impl Future<Output = Result<OwnedAnswer, CallFault>> + Send + use<> {
-        let told = self.ask(|reply| Came::Call(command, reply));
-        async { answer(told.await) }
+        let outcome = self.ask(|reply| Came::Call(command, reply));
+        async { answer(outcome.await) }
     }
 
     /// As [`apply`](Service::apply).
@@ -54,8 +54,8 @@ impl Service {
         &self,
         command: OwnedCommand,
     ) -> impl Future<Output = Result<Vec<u8>, CallFault>> + Send + use<> {
-        let told = self.ask(|reply| Came::Call(command, reply));
-        async { replied(told.await) }
+        let outcome = self.ask(|reply| Came::Call(command, reply));
+        async { replied(outcome.await) }
     }
 
     /// As [`read`](Service::read).
@@ -71,8 +71,8 @@ impl Service {
     /// }
     /// ```
     pub fn read_async(&self, key: &[u8]) -> impl Future<Output = Result<Option<Vec<u8>>, CallFault>> + Send + use<> {
-        let told = self.ask(|reply| Came::Read(key.to_vec(), reply));
-        async { value(told.await) }
+        let outcome = self.ask(|reply| Came::Read(key.to_vec(), reply));
+        async { value(outcome.await) }
     }
 
     /// As [`wish`](Service::wish).
@@ -88,8 +88,8 @@ impl Service {
     /// }
     /// ```
     pub fn wish_async(&self, wish: Wish) -> impl Future<Output = Result<u32, CallFault>> + Send + use<> {
-        let told = self.ask(|reply| Came::Wish(wish, reply));
-        async { changed(told.await) }
+        let outcome = self.ask(|reply| Came::Wish(wish, reply));
+        async { changed(outcome.await) }
     }
 
     /// As [`watch`](Service::watch).
@@ -111,8 +111,8 @@ impl Service {
         watched: Watched,
         most: usize,
     ) -> impl Future<Output = Result<Watch, CallFault>> + Send + use<> {
-        let told = self.ask(|reply| Came::Watch(WatchWish { watched, most, reply }));
-        async { told.await.unwrap_or(Err(CallFault::Ended)) }
+        let outcome = self.ask(|reply| Came::Watch(WatchWish { watched, most, reply }));
+        async { outcome.await.unwrap_or(Err(CallFault::Ended)) }
     }
 }
 

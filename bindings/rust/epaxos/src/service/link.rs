@@ -25,7 +25,7 @@ use std::io;
 /// }
 /// ```
 pub trait Link: Send + 'static {
-    /// Begins: tells of links that are opened and lost, and of what comes.
+    /// Begins: reports links that are opened and lost, and of what comes.
     ///
     /// # Errors
     ///

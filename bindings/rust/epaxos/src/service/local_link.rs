@@ -19,14 +19,14 @@ pub struct LocalLink {
 }
 
 impl LocalLink {
-    /// Tells this replica and each of those that are there of the other one.
-    fn tell(&self, tell: impl Fn(&Inbox, u8)) {
+    /// Notifies this replica and each of those that are there of the other one.
+    fn notify(&self, notify: impl Fn(&Inbox, u8)) {
         let inboxes = self.network.inboxes();
         let Some(Some(own)) = inboxes.get(usize::from(self.me)) else { return };
         for (peer, inbox) in (0..).zip(&*inboxes).filter(|(peer, _)| *peer != self.me) {
             if let Some(inbox) = inbox {
-                tell(inbox, self.me);
-                tell(own, peer);
+                notify(inbox, self.me);
+                notify(own, peer);
             }
         }
     }
@@ -40,7 +40,7 @@ impl Link for LocalLink {
             Some(place) => *place = Some(inbox),
         }
         self.is_there = true;
-        self.tell(Inbox::opened);
+        self.notify(Inbox::opened);
         Ok(())
     }
 
@@ -54,7 +54,7 @@ impl Link for LocalLink {
 impl Drop for LocalLink {
     fn drop(&mut self) {
         if self.is_there {
-            self.tell(Inbox::lost);
+            self.notify(Inbox::lost);
             self.network.inboxes()[usize::from(self.me)] = None;
         }
     }

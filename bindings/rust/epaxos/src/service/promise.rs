@@ -4,10 +4,10 @@ use std::pin::Pin;
 use std::sync::{Arc, Condvar, Mutex, MutexGuard, PoisonError};
 use std::task::{Context, Poll, Waker};
 
-/// The end of whoever will tell an answer. Dropped without it, it ends the wait.
+/// The end of whoever will send an answer. Dropped without it, it ends the wait.
 pub(super) struct Promise<T>(Arc<Shared<T>>);
 
-/// The end of whoever waits for it: as a thread, or as a future. None: nothing will be told.
+/// The end of whoever waits for it: as a thread, or as a future. None: nothing will come.
 pub(super) struct Awaited<T>(Arc<Shared<T>>);
 
 struct Shared<T> {
@@ -16,7 +16,7 @@ struct Shared<T> {
 }
 
 struct Held<T> {
-    told: Option<T>,
+    value: Option<T>,
     is_over: bool,
     waker: Option<Waker>,
 }
@@ -29,14 +29,14 @@ impl<T> Shared<T> {
 
 /// Both ends.
 pub(super) fn promise<T>() -> (Promise<T>, Awaited<T>) {
-    let held = Mutex::new(Held { told: None, is_over: false, waker: None });
+    let held = Mutex::new(Held { value: None, is_over: false, waker: None });
     let shared = Arc::new(Shared { held, came: Condvar::new() });
     (Promise(shared.clone()), Awaited(shared))
 }
 
 impl<T> Promise<T> {
-    pub(super) fn tell(self, told: T) {
-        self.0.held().told = Some(told);
+    pub(super) fn send(self, value: T) {
+        self.0.held().value = Some(value);
     }
 }
 
@@ -57,7 +57,7 @@ impl<T> Awaited<T> {
         while !held.is_over {
             held = self.0.came.wait(held).unwrap_or_else(PoisonError::into_inner);
         }
-        held.told.take()
+        held.value.take()
     }
 }
 
@@ -67,7 +67,7 @@ impl<T> Future for Awaited<T> {
     fn poll(self: Pin<&mut Self>, context: &mut Context) -> Poll<Option<T>> {
         let mut held = self.0.held();
         if held.is_over {
-            return Poll::Ready(held.told.take());
+            return Poll::Ready(held.value.take());
         }
         held.waker = Some(context.waker().clone());
         Poll::Pending

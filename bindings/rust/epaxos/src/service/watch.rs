@@ -7,7 +7,7 @@ use std::time::{Duration, Instant};
 
 /// The changes of a key, or of the keys of a prefix: [`Service::watch`](super::Service::watch) makes it.
 ///
-/// It begins with what the keys had at some moment, and tells each write that the replica executes after it, once, in
+/// It begins with what the keys had at some moment, and reports each write that the replica executes after it, once, in
 /// the order of execution. None is left out up to the [end](WatchEnd), across generations too.
 ///
 /// ```
@@ -56,7 +56,7 @@ impl Watch {
     ///
     /// # Errors
     ///
-    /// [`WatchEnd`], once what came before it is told.
+    /// [`WatchEnd`], once what came before it is reported.
     ///
     /// ```
     /// use epaxos::service::{CallFault, Service, WatchEnd, Watched};
@@ -95,7 +95,7 @@ impl Watch {
     ///
     /// # Errors
     ///
-    /// [`WatchEnd`], once what came before it is told.
+    /// [`WatchEnd`], once what came before it is reported.
     ///
     /// ```
     /// # use epaxos::{Cluster, service::{Service, Watched}};

@@ -2,8 +2,8 @@
 use std::error::Error;
 use std::fmt;
 
-/// Why a watch has ended. What was told before is all there was up to some place; what came behind that isn't told.
-/// [Watch again](super::Service::watch): the new watch begins with what the keys have.
+/// Why a watch has ended. What was reported before is all there was up to some place; what came behind that isn't
+/// reported. [Watch again](super::Service::watch): the new watch begins with what the keys have.
 ///
 /// ```
 /// use epaxos::service::WatchEnd;

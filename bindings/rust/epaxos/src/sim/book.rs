@@ -39,7 +39,7 @@ impl Place {
 /// A command, as it is compared.
 type Said = (bool, Vec<u8>, Option<Vec<u8>>, Vec<u8>);
 
-/// How often a command was asked and not refused, and its executions: when, and the reply, until somebody is told it.
+/// How often a command was asked and not refused, and its executions: when, and the reply, until somebody gets it.
 #[derive(Default)]
 struct Asks {
     open: u64,
@@ -57,7 +57,7 @@ struct Book {
     replies: BTreeMap<(u32, Instance), Vec<u8>>,
     states: BTreeMap<Place, u64>,
     asks: BTreeMap<Said, Asks>,
-    /// What was asked by which token, and not told yet.
+    /// What was asked by which token, and not answered yet.
     tokens: BTreeMap<u64, Said>,
     failure: Option<Failure>,
 }
@@ -125,9 +125,9 @@ impl Book {
         }
     }
 
-    fn told(&mut self, token: u64, (since, reply): (u64, &[u8])) -> Result<(), Failure> {
+    fn take_reply(&mut self, token: u64, (since, reply): (u64, &[u8])) -> Result<(), Failure> {
         let asks = self.tokens.remove(&token).and_then(|said| self.asks.get_mut(&said));
-        let is_it = |(at, told): &(u64, Vec<u8>)| *at >= since && told == reply;
+        let is_it = |(at, given): &(u64, Vec<u8>)| *at >= since && given == reply;
         let place = asks.as_ref().and_then(|asks| asks.replies.iter().position(is_it));
         match (asks, place) {
             (Some(asks), Some(place)) => {
@@ -180,11 +180,11 @@ impl Own {
         command
     }
 
-    /// Who has asked under this token is told this reply, or that it won't be done.
-    pub(super) fn tell(&self, token: u64, reply: Option<(u64, &[u8])>) -> Result<(), Failure> {
+    /// Who has asked under this token gets this reply, or that it won't be done.
+    pub(super) fn note_reply(&self, token: u64, reply: Option<(u64, &[u8])>) -> Result<(), Failure> {
         let mut book = self.book();
         if let Some(reply) = reply {
-            return book.told(token, reply);
+            return book.take_reply(token, reply);
         }
         let Some(said) = book.tokens.remove(&token) else { return Ok(()) };
         let asks = book.asks.entry(said).or_default();

@@ -64,7 +64,7 @@ impl Disk {
         self.lie.as_ref().map_or(&self.content, |(content, _)| content)
     }
 
-    /// Whether it has lost what it had said was there, which is told once.
+    /// Whether it has lost what it had said was there, which is noticed once.
     pub(super) fn take_lied(&mut self) -> bool {
         std::mem::take(&mut self.has_lied)
     }

@@ -11,9 +11,9 @@ use std::fmt;
 #[derive(Clone, PartialEq, Eq, Debug)]
 #[non_exhaustive]
 pub enum Failure {
-    /// What clients of this key were told is what no map would have told them.
+    /// What clients of this key were answered is what no map would have answered them.
     NotLinearizable(String),
-    /// Somebody was told twice.
+    /// Somebody was answered twice.
     ToldTwice(u64),
     /// Two replicas have executed different commands in one instance, or with other answers, or those of a key in
     /// another order.

@@ -37,7 +37,7 @@ impl Kind {
     }
 }
 
-/// What was asked, and what was told.
+/// What was asked, and what was answered.
 #[derive(Clone, Debug)]
 pub(super) struct Asked {
     pub(super) key: u32,
@@ -46,11 +46,11 @@ pub(super) struct Asked {
     pub(super) value: u32,
     pub(super) start: u64,
     pub(super) end: Option<u64>,
-    /// What the key had before, as far as it was told.
+    /// What the key had before, as far as it was answered.
     pub(super) before: Option<Option<u32>>,
     /// Whether it isn't done, and never will be.
     pub(super) is_refused: bool,
-    pub(super) is_told: bool,
+    pub(super) is_answered: bool,
     /// The machine that was asked, and at which start.
     pub(super) at: (u8, u32),
     /// What was asked of another key by the same command.
@@ -105,13 +105,13 @@ impl Judge {
                 None => _ = self.puts.insert(value.clone(), place),
             }
         }
-        let told = (command, answer);
+        let executed = (command, answer);
         if let Some(before) = self.executed.get(&place) {
-            if *before != told {
-                return Err(Failure::Apart(format!("{instance} of generation {generation}: {before:?}, {told:?}")));
+            if *before != executed {
+                return Err(Failure::Apart(format!("{instance} of generation {generation}: {before:?}, {executed:?}")));
             }
         } else {
-            self.executed.insert(place, told);
+            self.executed.insert(place, executed);
         }
         for (key, _) in written {
             let order = self.orders.entry((generation, key.clone())).or_default();
@@ -130,7 +130,7 @@ impl Judge {
         Ok(())
     }
 
-    /// What clients were told of each key.
+    /// What clients of each key were answered.
     pub(super) fn check(&self) -> Result<(), Failure> {
         let mut of_keys: BTreeMap<(bool, u32), Vec<Operation>> = BTreeMap::new();
         for asked in self.asked.iter().filter(|asked| !asked.is_refused && asked.kind != Kind::Own) {
@@ -145,18 +145,18 @@ impl Judge {
         Ok(())
     }
 
-    /// What was asked and told, a line each.
+    /// What was asked and answered, a line each.
     pub(super) fn lines(&self) -> String {
         let value = |value: Option<u32>| value.map_or("nothing".into(), |it| it.to_string());
         let line = |(token, asked): (usize, &Asked)| {
             let Asked { key, kind, value: new, start, end, before, is_refused, at: (machine, _), .. } = asked;
-            let told = match (end, before) {
+            let outcome = match (end, before) {
                 (Some(end), Some(before)) => format!("told at {end} that it had {}", value(*before)),
                 (Some(end), None) => format!("told at {end} that it is done"),
                 _ if *is_refused => "refused".into(),
                 _ => "not told".into(),
             };
-            format!("{token} asked machine {machine} at {start} for {kind:?} of key {key} with {new}: {told}\n")
+            format!("{token} asked machine {machine} at {start} for {kind:?} of key {key} with {new}: {outcome}\n")
         };
         self.asked.iter().enumerate().map(line).collect()
     }
@@ -187,7 +187,7 @@ fn operation(asked: &Asked) -> Operation {
         Kind::New => Action::New(value, before.map(|before| before.is_none())),
         Kind::Read | Kind::Get | Kind::Look | Kind::Own => Action::Get(before.unwrap_or_default()),
     };
-    // (a read of which nothing was told tells nothing)
+    // (a read that wasn't answered shows nothing)
     let end = end.filter(|_| before.is_some() || !kind.is_reading());
     Operation { action, start, end }
 }

@@ -46,7 +46,11 @@ impl Left {
 
 /// Leaves a folder for each replica, and a file of the receipts of each generation. `machines`: of each replica what
 /// the disks of its machines have, the first one's first.
-pub(super) fn put(folder: &Path, machines: &[Vec<Content>], told: &BTreeMap<u32, Vec<u8>>) -> io::Result<Vec<Left>> {
+pub(super) fn put(
+    folder: &Path,
+    machines: &[Vec<Content>],
+    receipts: &BTreeMap<u32, Vec<u8>>,
+) -> io::Result<Vec<Left>> {
     let all = || machines.iter().flatten();
     let newest = all().flat_map(Content::keys).map(|(generation, _)| *generation).max().unwrap_or_default();
     let mut whole = Vec::new();
@@ -63,7 +67,10 @@ pub(super) fn put(folder: &Path, machines: &[Vec<Content>], told: &BTreeMap<u32,
         }
         if let Some(replicas) = all().find_map(|content| size(content, generation)) {
             fs::create_dir_all(folder)?;
-            fs::write(folder.join(format!("receipts-{generation}")), told.get(&generation).map_or(&[][..], |it| it))?;
+            fs::write(
+                folder.join(format!("receipts-{generation}")),
+                receipts.get(&generation).map_or(&[][..], |it| it),
+            )?;
             let wanted = (1_u32 << replicas) - 1;
             whole.extend((logs & wanted == wanted).then_some(Left { generation, replicas }));
         }
@@ -80,7 +87,7 @@ fn put_generation(folder: &Path, content: &Content, generation: u32) -> io::Resu
     Ok(())
 }
 
-/// Of how many replicas a generation is, as a disk tells.
+/// Of how many replicas a generation is, as a disk shows.
 fn size(content: &Content, generation: u32) -> Option<u8> {
     let file = |name| content.get(&(generation, name));
     let of_reference = file(Name::Reference).and_then(|bytes| Reference::read(bytes));

@@ -7,7 +7,7 @@ use std::collections::VecDeque;
 
 /// Tokens of wishes: no client's is so great.
 const WISHES: u64 = 1 << 40;
-/// A wish of which nothing is told for so long is asked for elsewhere, and so soon one that was refused.
+/// A wish without an answer for so long is asked for elsewhere, and so soon one that was refused.
 const PATIENCE: u64 = 4 * S;
 const AGAIN: u64 = 300 * MS;
 /// Whatever goes wrong, each is granted within so long.
@@ -24,18 +24,18 @@ pub(super) enum Task {
 
 /// Who does one task after the other.
 pub(super) struct Operator {
-    /// How many machines take part, by what was told.
+    /// How many machines take part, by what was answered.
     pub(super) size: u8,
     tasks: VecDeque<Task>,
     /// The last wish, with the machine that was asked, and at which start; and whether it is too early: none of the
     /// machines that it names is there.
     asked: Option<(u64, u8, u32)>,
     is_early: bool,
-    /// Whether nothing was told of it yet.
+    /// Whether it has no answer yet.
     is_open: bool,
     count: u64,
     machine: u8,
-    /// The newest generation of which was told.
+    /// The newest generation that an answer had.
     newest: u32,
     /// When the first task was begun.
     since: u64,
@@ -179,14 +179,14 @@ impl World<'_> {
         }
     }
 
-    /// What was wished is told. What is granted before the machines are there leaves the cluster without them.
-    pub(super) fn operator_told(&mut self, token: u64, told: &Told) {
+    /// What was wished is answered. What is granted before the machines are there leaves the cluster without them.
+    pub(super) fn operator_answered(&mut self, token: u64, outcome: &Told) {
         if self.operator.asked.is_none_or(|(asked, ..)| asked != token) {
             return;
         }
         self.operator.is_open = false;
         // (what was so in an earlier generation, where somebody is still, may not be so any more)
-        let generation = if let Told::Changed(generation) = told { *generation } else { 0 };
+        let generation = if let Told::Changed(generation) = outcome { *generation } else { 0 };
         if generation == 0 || generation < self.operator.newest {
             self.operator.is_early = false;
             return self.after(AGAIN, Event::Operate(token));

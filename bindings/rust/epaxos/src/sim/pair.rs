@@ -12,7 +12,7 @@ pub(super) enum Pair {
 }
 
 impl Pair {
-    /// The command, which tells of both keys.
+    /// The command, which reports both keys.
     pub(super) fn command(self, [first, second]: [&[u8]; 2], [one, other]: [&[u8]; 2]) -> Option<OwnedCommand> {
         let tx = Command::tx().put(first, one).tell(first).tell(second);
         let tx = match self {
@@ -32,7 +32,7 @@ impl Pair {
 }
 
 /// What each of both keys had, by the answer. What isn't done to the first key is a read of it.
-pub(super) fn told([first, second]: [&mut Asked; 2], answer: &OwnedAnswer) -> Option<[Option<u32>; 2]> {
+pub(super) fn had_before([first, second]: [&mut Asked; 2], answer: &OwnedAnswer) -> Option<[Option<u32>; 2]> {
     let values: &OwnedValues = match answer {
         OwnedAnswer::Done(values) => values,
         OwnedAnswer::Undone(values) => {
@@ -43,7 +43,7 @@ pub(super) fn told([first, second]: [&mut Asked; 2], answer: &OwnedAnswer) -> Op
     };
     let number = |value: Option<&[u8]>| value.and_then(|it| it.try_into().ok()).map(u32::from_be_bytes);
     let mut all: Vec<Option<u32>> = values.iter().map(number).collect();
-    // (an answer tells of the lesser key first)
+    // (an answer reports the lesser key first)
     if second.key_bytes() < first.key_bytes() {
         all.reverse();
     }
@@ -56,7 +56,7 @@ mod tests {
 
     fn asked(key: u32, kind: Kind) -> Asked {
         let (end, before, with) = (None, None, None);
-        Asked { key, kind, value: 1, start: 0, end, before, is_refused: false, is_told: false, at: (0, 1), with }
+        Asked { key, kind, value: 1, start: 0, end, before, is_refused: false, is_answered: false, at: (0, 1), with }
     }
 
     #[test]
@@ -64,10 +64,10 @@ mod tests {
         let (mut first, mut second) = (asked(2, Kind::Put), asked(10, Pair::Guarded.of_second()));
         let values = OwnedValues::new([Some([0, 0, 0, 7]), None]).unwrap();
         // ("key 10" is less than "key 2")
-        let done = told([&mut first, &mut second], &OwnedAnswer::Done(values.clone()));
+        let done = had_before([&mut first, &mut second], &OwnedAnswer::Done(values.clone()));
         assert_eq!((done, first.kind, second.kind), (Some([None, Some(7)]), Kind::Put, Kind::Get));
-        let undone = told([&mut first, &mut second], &OwnedAnswer::Undone(values));
+        let undone = had_before([&mut first, &mut second], &OwnedAnswer::Undone(values));
         assert_eq!((undone, first.kind), (Some([None, Some(7)]), Kind::Get));
-        assert_eq!(told([&mut first, &mut second], &OwnedAnswer::Absent), None);
+        assert_eq!(had_before([&mut first, &mut second], &OwnedAnswer::Absent), None);
     }
 }

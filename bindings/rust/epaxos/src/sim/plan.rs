@@ -97,7 +97,8 @@ pub enum What {
     CrashInChange(u8),
     /// It does nothing.
     Pause,
-    /// Nothing goes from it to one other machine, nor comes from there. Whether both are told that the link is lost.
+    /// Nothing goes from it to one other machine, nor comes from there. Whether both are notified that the link is
+    /// lost.
     Cut(u8, bool),
     /// It loses its power, and so often again soon after each start, with calls under way that it was asked at once.
     CrashInCalls(u8),
@@ -112,7 +113,7 @@ pub enum What {
     Lie,
     /// Somebody wishes the cluster to have so many machines.
     Resize(Cluster),
-    /// It is told to end, and ends once it has told who asked, or after five seconds.
+    /// It is asked to end, and ends once it has answered who asked, or after five seconds.
     End,
 }
 
@@ -126,8 +127,10 @@ impl fmt::Display for Trouble {
             }
             What::CrashInCalls(times) => format!("loses its power, and {times} times more with calls under way"),
             What::Pause => "stands still".into(),
-            What::Cut(other, is_told) => format!("is cut off from {other}{}", if is_told { "" } else { " in silence" }),
-            What::Apart(is_told) => format!("is cut off from all{}", if is_told { "" } else { " in silence" }),
+            What::Cut(other, is_reported) => {
+                format!("is cut off from {other}{}", if is_reported { "" } else { " in silence" })
+            }
+            What::Apart(is_reported) => format!("is cut off from all{}", if is_reported { "" } else { " in silence" }),
             What::Replace => "is replaced by another one".into(),
             What::Older => "loses its power, and comes back with an older copy of its disk".into(),
             What::Lie => "has a disk that says what isn't so".into(),
@@ -214,7 +217,7 @@ impl Plan {
         plan
     }
 
-    /// In one plan of four some that would lose their power are told to end.
+    /// In one plan of four some that would lose their power are asked to end.
     fn end(&mut self) {
         let is_one = mixed(self.seed ^ 0x6c61) % 4 == 0;
         for (number, trouble) in (0..).zip(&mut self.troubles).filter(|_| is_one) {
@@ -242,7 +245,7 @@ impl Plan {
     }
 
     /// The same, in which the first thing that goes wrong, and some of the others, is a disk that lies: what it says is
-    /// there is lost with the machine's power. A replica then has forgotten what it has told, against which nothing is
+    /// there is lost with the machine's power. A replica then has forgotten what it has sent, against which nothing is
     /// promised. So what isn't right from then on is no failure: [`Seen`](super::Seen) counts what noticed it.
     ///
     /// ```

@@ -7,7 +7,7 @@ use std::io::{self, ErrorKind};
 #[derive(Default)]
 pub(super) struct Registers(BTreeMap<Vec<u8>, Register>);
 
-/// What a register has, and how often it was written, which tells a machine that has done something twice.
+/// What a register has, and how often it was written, which shows a machine that has done something twice.
 #[derive(Default)]
 struct Register {
     value: Vec<u8>,

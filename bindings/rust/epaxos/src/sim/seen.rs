@@ -17,7 +17,7 @@ pub struct Seen {
     pub time: Duration,
     /// What was asked for, commands and reads.
     pub asks: u64,
-    /// How many of these were told an answer.
+    /// How many of these were answered.
     pub told: u64,
     /// How many were refused.
     pub refused: u64,
@@ -33,7 +33,7 @@ pub struct Seen {
     pub starts: u64,
     /// Machines that lost their power.
     pub crashes: u64,
-    /// Machines that were told to end, and had told all who asked by then.
+    /// Machines that were asked to end, and had answered all who asked by then.
     pub ended: u64,
     /// Machines that were replaced.
     pub replaced: u64,
@@ -43,7 +43,7 @@ pub struct Seen {
     pub older: u64,
     /// Disks that had lied, and lost what they had said was there.
     pub lies: u64,
-    /// How many of these a host has noticed: peers tell it what it has forgotten, or what is on its disk isn't whole.
+    /// How many of these a host has noticed: peers say what it has forgotten, or what is on its disk isn't whole.
     pub lies_noticed: u64,
     /// How many of these nobody has noticed, in runs that were right all the same.
     pub lies_unseen: u64,
@@ -59,12 +59,12 @@ pub struct Seen {
     pub turns: u64,
     /// All that happened.
     pub events: u64,
-    /// A digest of all that came, and of all that was told: the same plan gives the same one.
+    /// A digest of all that came, and of all that was answered: the same plan gives the same one.
     pub digest: u64,
 }
 
 impl Seen {
-    /// Something has come, or was told.
+    /// Something has come, or was answered.
     pub(super) fn note(&mut self, head: &[u8], bytes: &[u8]) {
         // (FNV-1a, by words)
         let mut add = |word: u64| self.digest = (self.digest ^ word).wrapping_mul(0x100_0000_01b3).rotate_left(29);

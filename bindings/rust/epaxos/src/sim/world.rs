@@ -28,12 +28,12 @@ pub(super) const MS: u64 = 1_000;
 pub(super) const S: u64 = 1_000_000;
 /// A host has its turn so long after something has happened, as its processor takes.
 const TURN: u64 = 20;
-/// A client that isn't told for so long asks another machine.
+/// A client that isn't answered for so long asks another machine.
 const CLIENT_PATIENCE: u64 = 10 * S;
-/// Once nothing goes wrong any more, all is to be told and to agree within so long.
+/// Once nothing goes wrong any more, all are to be answered and to agree within so long.
 const BOUND: u64 = 180 * S;
-/// Where nothing has gone wrong for so long, a machine that has reached a majority has told who asked before, and one
-/// that has reached all is in no earlier generation than the newest one of then.
+/// Where nothing has gone wrong for so long, a machine that has reached a majority has answered who asked before, and
+/// one that has reached all is in no earlier generation than the newest one of then.
 const WITHIN: u64 = 60 * S;
 /// In the end so many keys are read at once.
 const READ_AT_ONCE: u32 = 16;
@@ -43,7 +43,7 @@ const AT_ONCE: u64 = 4;
 const NOTICED: u64 = 4 * S;
 /// So long after it was made, it comes back.
 const OLDER: u64 = 3 * S;
-/// A host that was told to end has so long for it.
+/// A host that was asked to end has so long for it.
 const ENDING: u64 = 5 * S;
 /// (one of the machines' clocks never reads less)
 const BEGIN: u64 = 100 * S;
@@ -136,7 +136,7 @@ pub(super) struct World<'a> {
     pub(super) random: Random,
     cuts: Vec<Vec<u32>>,
     judge: Judge,
-    /// The first question that may not be told yet.
+    /// The first question that may not be answered yet.
     first_open: usize,
     left: u32,
     pub(super) unhealed: usize,
@@ -404,9 +404,9 @@ impl<'a> World<'a> {
             }
         }
         let until = self.now + BOUND;
-        // (each is told once, and stays told)
+        // (each is answered once, and stays answered)
         for token in first..self.judge.asked.len() {
-            while !self.judge.asked[token].is_told {
+            while !self.judge.asked[token].is_answered {
                 if self.now >= until {
                     return Err(Failure::Stuck("the last reads".into()));
                 }
@@ -565,8 +565,8 @@ impl<'a> World<'a> {
                 self.unhealed -= 1;
                 self.start(machine)
             }
-            Event::Mended(one, other, is_told) => {
-                self.mend((one, other), is_told);
+            Event::Mended(one, other, is_reported) => {
+                self.mend((one, other), is_reported);
                 self.unhealed -= 1;
                 Ok(())
             }
@@ -587,7 +587,7 @@ impl<'a> World<'a> {
                     // (a generation that all have left needs nothing of it any more)
                     None => self.machine(machine).older = None,
                     Some(_) if host.status().reached.is_empty() || it.paused + NOTICED > self.now => {
-                        // (it stood still meanwhile, or was cut off, so that nobody could tell it)
+                        // (it stood still meanwhile, or was cut off, so that nobody could notify it)
                         self.after(NOTICED, Event::Check(machine, start));
                     }
                     Some(older) if self.others_saw(machine, older).any(|saw| saw) => {
@@ -657,7 +657,7 @@ impl<'a> World<'a> {
     /// Whether somebody waits for a machine that knows of it.
     fn is_open(&self, asked: &Asked) -> bool {
         let machine = &self.machines[usize::from(asked.at.0)];
-        !asked.is_told && machine.start == asked.at.1 && machine.host.is_some()
+        !asked.is_answered && machine.start == asked.at.1 && machine.host.is_some()
     }
 
     /// A machine starts and is asked several things at once, and loses its power soon after, where that is to come.
@@ -760,7 +760,7 @@ impl<'a> World<'a> {
         }
         frames.into_iter().for_each(|(to, bytes)| self.send(machine, to, bytes));
         for reply in replies {
-            self.told(machine, reply)?;
+            self.take_reply(machine, reply)?;
         }
         if is_ended {
             return self.part(machine);
@@ -815,11 +815,11 @@ impl<'a> World<'a> {
         Ok(())
     }
 
-    /// A host that was told to end has told all who asked.
+    /// A host that was asked to end has answered all who asked.
     fn part(&mut self, machine: u8) -> Result<(), Failure> {
         let of = (machine, self.machine(machine).start);
         let mut asked = self.judge.asked.iter().enumerate().skip(self.first_open);
-        if let Some((token, _)) = asked.find(|(_, asked)| !asked.is_told && asked.at == of) {
+        if let Some((token, _)) = asked.find(|(_, asked)| !asked.is_answered && asked.at == of) {
             return Err(Failure::Stuck(format!("machine {machine} ends, and hasn't told who asked as {token}")));
         }
         self.seen.ended += 1;
@@ -872,7 +872,7 @@ impl<'a> World<'a> {
         }
     }
 
-    /// Who has asked this waits no more. It is told all the same.
+    /// Who has asked this waits no more. It is answered all the same.
     fn give_up(&mut self, token: u64) {
         let (machine, start) = self.judge.asked[token as usize].at;
         let now = self.clock(machine, self.now);
@@ -888,8 +888,8 @@ impl<'a> World<'a> {
         let token = self.judge.asked.len() as u64;
         let value = token as u32 + 1;
         let (start, at) = (self.now, (machine, self.machine(machine).start));
-        let (end, before, is_refused, is_told, with) = (None, None, false, false, None);
-        let asked = Asked { key, kind, value, start, end, before, is_refused, is_told, at, with };
+        let (end, before, is_refused, is_answered, with) = (None, None, false, false, None);
+        let asked = Asked { key, kind, value, start, end, before, is_refused, is_answered, at, with };
         let now = self.clock(machine, self.now);
         if let Some(own) = &self.own {
             let command = own.ask(token, &mut self.random);
@@ -941,36 +941,36 @@ impl<'a> World<'a> {
         token
     }
 
-    /// Somebody is told.
-    fn told(&mut self, machine: u8, reply: Reply) -> Result<(), Failure> {
-        let Reply { token, told } = reply;
+    /// Somebody is answered.
+    fn take_reply(&mut self, machine: u8, reply: Reply) -> Result<(), Failure> {
+        let Reply { token, told: outcome } = reply;
         if self.operator.is_its(token) {
-            self.operator_told(token, &told);
+            self.operator_answered(token, &outcome);
             return Ok(());
         }
         self.seen.note(&[machine, 251], &token.to_be_bytes());
         let now = self.now;
         let all = &mut self.judge.asked;
-        let is_open = all.get(token as usize).is_some_and(|asked| !asked.is_told);
+        let is_open = all.get(token as usize).is_some_and(|asked| !asked.is_answered);
         let Some((asked, rest)) = all.get_mut(token as usize..).and_then(<[Asked]>::split_first_mut) else {
             return Err(Failure::ToldTwice(token));
         };
         if !is_open {
             return Err(Failure::ToldTwice(token));
         }
-        match (&self.own, &told) {
-            (Some(own), Told::Replied(reply)) => own.tell(token, Some((asked.start, reply)))?,
-            (Some(own), Told::Refused(_)) => own.tell(token, None)?,
+        match (&self.own, &outcome) {
+            (Some(own), Told::Replied(reply)) => own.note_reply(token, Some((asked.start, reply)))?,
+            (Some(own), Told::Refused(_)) => own.note_reply(token, None)?,
             _ => {}
         }
         let number = |value: &[u8]| value.try_into().ok().map(u32::from_be_bytes);
         let mut second = rest.first_mut().filter(|_| asked.with.is_some());
         let mut of_second = None;
-        match told {
+        match outcome {
             Told::Done(answer) => {
                 asked.end = Some(now);
                 asked.before = match &mut second {
-                    Some(second) => pair::told([&mut *asked, &mut **second], &answer).map(|[first, other]| {
+                    Some(second) => pair::had_before([&mut *asked, &mut **second], &answer).map(|[first, other]| {
                         of_second = Some(other);
                         first
                     }),
@@ -992,10 +992,10 @@ impl<'a> World<'a> {
                 self.seen.refused += 1;
             }
         }
-        asked.is_told = true;
+        asked.is_answered = true;
         if let Some(second) = second {
             (second.end, second.before) = (asked.end, of_second);
-            (second.is_refused, second.is_told) = (asked.is_refused, true);
+            (second.is_refused, second.is_answered) = (asked.is_refused, true);
         }
         let is_refused = asked.is_refused;
         let count = self.count();
@@ -1035,7 +1035,7 @@ impl<'a> World<'a> {
             return Ok(());
         }
         if self.machine(machine).older.is_some_and(|older| !self.others_saw(machine, older).all(|saw| saw)) {
-            // (meanwhile the others have gone on, and have seen nothing of it since: nobody could tell it)
+            // (meanwhile the others have gone on, and have seen nothing of it since: nobody could notify it)
             self.replace(machine);
         }
         self.machine(machine).start += 1;
@@ -1105,7 +1105,7 @@ impl<'a> World<'a> {
         it.has_lied |= has_lied;
         self.seen.lies += u64::from(has_lied);
         self.seen.crashes += 1;
-        // (who asked there isn't told)
+        // (who asked there isn't answered)
         let count = self.count();
         for client in 0..self.clients.len() {
             let it = &mut self.clients[client];
@@ -1116,7 +1116,7 @@ impl<'a> World<'a> {
             }
         }
         for peer in (0..count).filter(|peer| *peer != machine) {
-            // (power that is lost tells nobody; a program that ends has its connections closed)
+            // (power that is lost notifies nobody; a program that ends has its connections closed)
             let wait = if self.random.below(2) == 0 { 1 } else { 2 * S };
             self.after(wait, Event::Lost(peer, machine));
         }
@@ -1146,7 +1146,7 @@ impl<'a> World<'a> {
         }
     }
 
-    /// Whether one more machine may be lost for good: all others have what they told, and are in the cluster.
+    /// Whether one more machine may be lost for good: all others have what they sent, and are in the cluster.
     fn may_lose(&self, machine: u8) -> bool {
         let is_in = |it: &Machine| {
             let generation = it.host.as_ref().map_or(0, |host| host.status().generation);
@@ -1189,16 +1189,16 @@ impl<'a> World<'a> {
                 self.machine(machine).paused = self.now + lasts;
                 self.after(lasts, Event::Again(machine));
             }
-            What::Cut(other, is_told) => {
-                self.cut((machine, other), is_told);
-                self.after(lasts, Event::Mended(machine, other, is_told));
+            What::Cut(other, is_reported) => {
+                self.cut((machine, other), is_reported);
+                self.after(lasts, Event::Mended(machine, other, is_reported));
             }
-            What::Apart(is_told) => {
+            What::Apart(is_reported) => {
                 let others: Vec<u8> = (0..self.count()).filter(|other| *other != machine).collect();
                 self.unhealed += others.len() - 1;
                 for other in others {
-                    self.cut((machine, other), is_told);
-                    self.after(lasts, Event::Mended(machine, other, is_told));
+                    self.cut((machine, other), is_reported);
+                    self.after(lasts, Event::Mended(machine, other, is_reported));
                 }
             }
             What::Replace if self.may_lose(machine) => {
@@ -1241,7 +1241,7 @@ impl<'a> World<'a> {
         }
         self.stop(machine, None);
         if self.keeps {
-            // (what it had is what it told)
+            // (what it had is what it sent)
             let newest = self.machine(machine).disk.whole();
             self.gone.push((machine, newest));
         }
@@ -1251,7 +1251,8 @@ impl<'a> World<'a> {
         Ok(())
     }
 
-    /// Whether all others know, and can tell the machine, that it has had more than so many entries of this generation.
+    /// Whether all others know, and can say to the machine, that it has had more than so many entries of this
+    /// generation.
     fn is_known(&self, machine: u8, older: (u32, u32)) -> bool {
         self.others_saw(machine, older).all(|saw| saw)
             && self.cuts.iter().flatten().all(|count| *count == 0)
@@ -1269,17 +1270,17 @@ impl<'a> World<'a> {
         })
     }
 
-    fn cut(&mut self, (one, other): (u8, u8), is_told: bool) {
+    fn cut(&mut self, (one, other): (u8, u8), is_reported: bool) {
         self.disturb();
         for (from, to) in [(one, other), (other, one)] {
             self.cuts[usize::from(from)][usize::from(to)] += 1;
-            if is_told {
+            if is_reported {
                 self.after(MS, Event::Lost(from, to));
             }
         }
     }
 
-    fn mend(&mut self, (one, other): (u8, u8), _is_told: bool) {
+    fn mend(&mut self, (one, other): (u8, u8), _is_reported: bool) {
         if one == other {
             self.machine(one).crash_in_change = None;
             return;

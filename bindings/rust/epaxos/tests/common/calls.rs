@@ -19,40 +19,40 @@ pub fn wait_for(is_so: impl Fn() -> bool) {
     }
 }
 
-/// What is told in the end. What is refused isn't done, and is asked again.
-pub fn told<T>(ask: impl Fn() -> Result<T, CallFault>) -> Result<T, CallFault> {
+/// What is answered in the end. What is refused isn't done, and is asked again.
+pub fn outcome_of<T>(ask: impl Fn() -> Result<T, CallFault>) -> Result<T, CallFault> {
     let begun = Instant::now();
     loop {
         match ask() {
             Err(CallFault::Refused(_)) if begun.elapsed() < PATIENCE => thread::sleep(Duration::from_millis(50)),
-            told => return told,
+            outcome => return outcome,
         }
     }
 }
 
 /// What a command is answered by a replica that isn't left behind.
 pub fn answer(service: &Service, command: &OwnedCommand) -> OwnedAnswer {
-    told(|| service.call(command.clone())).unwrap()
+    outcome_of(|| service.call(command.clone())).unwrap()
 }
 
 /// Has a command done. What it was answered isn't known where the replica is left behind by a generation.
 pub fn have_done(service: &Service, command: &OwnedCommand) {
-    let told = told(|| service.call(command.clone()));
-    assert!(matches!(told, Ok(_) | Err(CallFault::DoneUnseen)), "{told:?}");
+    let outcome = outcome_of(|| service.call(command.clone()));
+    assert!(matches!(outcome, Ok(_) | Err(CallFault::DoneUnseen)), "{outcome:?}");
 }
 
 /// Raises a key to this number from the one before; before 1 there is none. A replica that is left behind by more than
-/// a generation doesn't know whether it was done: then what the key has tells, as what wasn't done by then never is.
+/// a generation doesn't know whether it was done: then what the key has shows it, as what wasn't done by then never is.
 pub fn raise(service: &Service, key: &str, number: u32) {
     let value = |number: u32| (number > 0).then(|| number.to_string().into_bytes());
     let (before, after) = (value(number - 1), value(number));
     let raise = OwnedCommand::Put { key: key.into(), value: number.to_string().into() };
     loop {
-        let had = match told(|| service.call(raise.clone())) {
+        let had = match outcome_of(|| service.call(raise.clone())) {
             Ok(OwnedAnswer::Absent) => None,
             Ok(OwnedAnswer::Present(had)) => Some(had),
             Err(CallFault::DoneUnseen) => return,
-            Err(CallFault::Doubtful) if told(|| service.read(key.as_bytes())).unwrap() == after => return,
+            Err(CallFault::Doubtful) if outcome_of(|| service.read(key.as_bytes())).unwrap() == after => return,
             Err(CallFault::Doubtful) => continue,
             other => panic!("{key} to {number}: {other:?}"),
         };

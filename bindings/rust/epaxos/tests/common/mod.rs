@@ -154,16 +154,16 @@ impl Plain {
     }
 
     fn apply_tx(&mut self, tx: &OwnedTx) -> Reply {
-        let told = owned(tx.told().map(|key| self.at(key)));
+        let values = owned(tx.told().map(|key| self.at(key)));
         if tx.items().any(|it| it.required.is_some_and(|value| self.at(it.key) != value)) {
-            return Reply::Undone(told);
+            return Reply::Undone(values);
         }
         for item in tx.items() {
             if let Some(value) = item.written {
                 self.set(item.key, value.map(Into::into));
             }
         }
-        Reply::Done(told)
+        Reply::Done(values)
     }
 
     fn set(&mut self, key: &[u8], value: Option<Vec<u8>>) {
@@ -209,9 +209,9 @@ pub struct Did {
     pub reply: Reply,
 }
 
-/// What a client was told.
+/// What a client was answered.
 #[derive(Clone, PartialEq, Eq, Debug)]
-pub struct Told {
+pub struct Answered {
     pub client: u32,
     pub request: u32,
     pub instance: Instance,
@@ -225,7 +225,7 @@ pub struct Seat {
     pub replica: Option<Replica>,
     pub log: Vec<u8>,
     pub did: Vec<Did>,
-    pub told: Vec<Told>,
+    pub answered: Vec<Answered>,
     /// The receipts, as an audit takes them.
     pub receipts: Vec<u8>,
     pub entries: u32,
@@ -253,7 +253,7 @@ impl<'a> World<'a> {
                 replica: Some(setup.begin().unwrap()),
                 log: Vec::new(),
                 did: Vec::new(),
-                told: Vec::new(),
+                answered: Vec::new(),
                 receipts: Vec::new(),
                 entries: 0,
                 is_open: false,
@@ -277,12 +277,13 @@ impl<'a> World<'a> {
     }
 
     pub fn propose(&mut self, me: usize, client: u32, request: u32, command: &Owned) {
-        let seen = self.seats.iter().flat_map(|seat| &seat.told).filter(|it| it.client == client).map(|it| it.stamp);
+        let seen =
+            self.seats.iter().flat_map(|seat| &seat.answered).filter(|it| it.client == client).map(|it| it.stamp);
         let seen = seen.max().unwrap_or(0);
         self.replica(me).propose(Call { client, request, seen }, command.lent()).unwrap();
     }
 
-    /// Puts what a replica has on its disk, and hears what it tells.
+    /// Puts what a replica has on its disk, and hears what it reports.
     pub fn settle(&mut self, me: usize) {
         let seat = &mut self.seats[me];
         let Some(replica) = &mut seat.replica else { return };
@@ -297,7 +298,7 @@ impl<'a> World<'a> {
         for receipt in output.receipts() {
             assert_eq!(receipt.replica, seat.me);
             seat.receipts.extend(receipt.bytes);
-            seat.told.push(Told {
+            seat.answered.push(Answered {
                 client: receipt.client,
                 request: receipt.request,
                 instance: receipt.instance,
@@ -381,8 +382,8 @@ impl<'a> World<'a> {
         for (seat, plain) in self.seats.iter().zip(&maps) {
             assert_eq!(sorted(seat), sorted(&self.seats[0]));
             assert_eq!(*plain, maps[0]);
-            for told in &seat.told {
-                assert!(seat.did.iter().any(|it| it.instance == told.instance && it.reply == told.reply));
+            for answer in &seat.answered {
+                assert!(seat.did.iter().any(|it| it.instance == answer.instance && it.reply == answer.reply));
             }
         }
         for me in 0..self.seats.len() {

@@ -31,7 +31,7 @@ impl Net {
         Net { hosts, disks, now, calls: 0, away: None, written: 0, followed: 0, writes: false }
     }
 
-    /// A turn of each: who is told what.
+    /// A turn of each: who is answered what.
     pub fn turn(&mut self) -> Vec<Reply> {
         let (mut frames, mut replies) = (Vec::new(), Vec::new());
         for ((me, host), disk) in (0..).zip(&mut self.hosts).zip(&mut self.disks) {
@@ -71,14 +71,14 @@ impl Net {
         replies
     }
 
-    /// What the first one's client is told of a command.
+    /// What the first one's client is answered to a command.
     pub fn ask(&mut self, command: OwnedCommand) -> Told {
         self.hosts[0].call(self.calls + 1, command, self.now);
-        self.told()
+        self.outcome()
     }
 
-    /// What is told of the next call, which was asked.
-    pub fn told(&mut self) -> Told {
+    /// What comes of the next call, which was asked.
+    pub fn outcome(&mut self) -> Told {
         self.calls += 1;
         for _ in 0..10_000 {
             let mut replies = self.turn();
@@ -87,6 +87,6 @@ impl Net {
                 return reply.told;
             }
         }
-        panic!("nothing is told");
+        panic!("nothing is answered");
     }
 }
