@@ -121,7 +121,7 @@ def tried(node=BUILT[0], program=BUILT[1], library=None):
             print("no cluster of hosts/store is tried: `rt ci` has not built both programs", flush=True)
         # (the tests run the programs, so that this builds them too)
         packages, it = source(), python()
-        well = [is_well(["cargo", "test", *packages, "--quiet"], cwd=STORE, env=environment)]
+        well = [is_well(["cargo", "test", *packages, "--workspace", "--quiet"], cwd=STORE, env=environment)]
         if epaxos and all(well):
             well.append(is_well([sys.executable, f"{TOP}/.ci/folders.py", node, f"{scratch}/target/debug/folder"], env=environment))
         if all(well):

@@ -4,7 +4,7 @@
 //! Three replicas in this process, whose map has so many keys of 16 bytes with values of 100, do so many commands, each
 //! of one key: all of them new, or spread over twice the keys. Others' commands are executed now and then, as a store
 //! does it. Then one proposes a seal, and each goes on in the next generation; and all that once more. (.ci/growth.py
-//! counts what the library does meanwhile.) Told is the
+//! counts what the library does meanwhile.) Printed is the
 //! processor time of each step that takes some; and in the end, by the clock, how long `succeed` took, and a command
 //! with all that comes of it.
 
@@ -22,7 +22,7 @@ type Res<T> = Result<T, Box<dyn Error>>;
 const OPEN: u32 = 10;
 /// and after so many rounds of them others' commands are executed.
 const BETWEEN_EXECUTIONS: u32 = 80;
-/// What takes less isn't told.
+/// What takes less isn't printed.
 const LEAST: Duration = Duration::from_millis(1);
 
 fn key(number: usize) -> Vec<u8> {
@@ -68,7 +68,7 @@ fn timed<T>(what: &str, run: impl FnOnce() -> T) -> T {
 }
 
 /// Hands on frames until there are none.
-fn settle(replicas: &mut [Replica], is_told: bool) -> Res<()> {
+fn settle(replicas: &mut [Replica], is_timed: bool) -> Res<()> {
     let mut frames: VecDeque<(u8, Vec<u8>)> = VecDeque::new();
     loop {
         for replica in replicas.iter_mut() {
@@ -77,14 +77,14 @@ fn settle(replicas: &mut [Replica], is_told: bool) -> Res<()> {
                 let output = replica.ready()?.assume_synced()?;
                 Ok(output.frames().map(|frame| (frame.to, frame.bytes.to_vec())).collect())
             };
-            frames.extend(if is_told { timed("advance", || step(replica))? } else { step(replica)? });
+            frames.extend(if is_timed { timed("advance", || step(replica))? } else { step(replica)? });
         }
         if frames.is_empty() {
             return Ok(());
         }
         while let Some((to, bytes)) = frames.pop_front() {
             let replica = &mut replicas[usize::from(to)];
-            let handled = if is_told {
+            let handled = if is_timed {
                 timed(&format!("a frame of kind {}, {} bytes", bytes[3], bytes.len()), || replica.handle(&bytes))
             } else {
                 replica.handle(&bytes)
@@ -153,13 +153,17 @@ fn main() -> Res<()> {
     }
     letting_go.into_iter().try_for_each(JoinHandle::join).map_err(|_| "a thread has failed")?;
     let ms = |took: Duration| took.as_secs_f64() * 1e3;
-    let told = |mut took: Vec<f64>| {
+    let spread = |mut took: Vec<f64>| {
         took.sort_by(f64::total_cmp);
         format!("median {:.1}, worst {:.1}", took[took.len() / 2], took[took.len() - 1])
     };
-    let of = |which: fn(&(Duration, Duration)) -> Duration| told(stops.iter().map(|it| ms(which(it))).collect());
+    let of = |which: fn(&(Duration, Duration)) -> Duration| spread(stops.iter().map(|it| ms(which(it))).collect());
     println!("succeed, ms of the processor: {}; by the clock: {}", of(|it| it.0), of(|it| it.1));
     let (processor, clock) = rates.into_iter().unzip();
-    println!("a command at three replicas, us of the processor: {}; by the clock: {}", told(processor), told(clock));
+    println!(
+        "a command at three replicas, us of the processor: {}; by the clock: {}",
+        spread(processor),
+        spread(clock)
+    );
     Ok(())
 }

@@ -14,39 +14,39 @@ use std::sync::atomic::AtomicU64;
 use std::sync::mpsc::{SyncSender, sync_channel};
 use std::thread;
 use std::time::{Duration, Instant};
-use store::admin::{self, Operators};
-use store::clients::{self, Shared};
-use store::directory::Directory;
-use store::directory_fault::DirectoryFault;
-use store::event::Event;
-use store::expiring::Expiring;
-use store::identities::{Identities, Identity};
-use store::identities_fault::IdentitiesFault;
-use store::keys::Keys;
-use store::listing::Listing;
-use store::memory::Memory;
-use store::metrics::{self, Metrics};
-use store::notify;
+use store::client::clients::{self, Shared};
+use store::client::memory::Memory;
+use store::client::password::Password;
+use store::client::replies::Due;
+use store::core::event::Event;
+use store::core::expiring::Expiring;
+use store::core::keys::Keys;
+use store::core::listing::Listing;
+use store::core::plants::Plant;
+use store::core::serving::{Parts, Serving};
+use store::core::sweep;
+use store::life::directory::Directory;
+use store::life::directory_fault::DirectoryFault;
+use store::life::identities::{Identities, Identity};
+use store::life::identities_fault::IdentitiesFault;
+use store::life::recovery;
+use store::life::starts::{self, is_of};
+use store::life::starts_fault::StartsFault;
+use store::life::stop_fault::StopFault;
+use store::life::sum::SUMS;
 use store::opening::Opening;
-use store::options::{self, Options, Words, help, read};
-use store::options_fault::OptionsFault;
-use store::password::Password;
-use store::peers::{MOST_REPLICAS, Membership, Near, Peers, TcpReceiver};
-use store::plants::Plant;
+use store::ops::admin::{self, Operators};
+use store::ops::metrics::{self, Metrics};
+use store::ops::notify;
+use store::ops::options::{self, Options, Words, help, read};
+use store::ops::options_fault::OptionsFault;
+use store::ops::say::{error, name, say, warn};
+use store::peer::peers::{MOST_REPLICAS, Membership, Near, Peers, TcpReceiver};
+use store::peer::sealed::{Key, KeyFault};
+use store::peer::seen::Seen;
 use store::random::Random;
 use store::receipts::Receipts;
 use store::receipts_fault::ReceiptsFault;
-use store::recovery;
-use store::replies::Due;
-use store::say::{error, name, say, warn};
-use store::sealed::{Key, KeyFault};
-use store::seen::Seen;
-use store::serving::{Parts, Serving};
-use store::starts::{self, is_of};
-use store::starts_fault::StartsFault;
-use store::stop_fault::StopFault;
-use store::sum::SUMS;
-use store::sweep;
 
 /// The host takes no more for the numbers after which a generation ends.
 const MOST_NUMBERS: u16 = 8_890;
@@ -62,7 +62,7 @@ fn main() -> ExitCode {
     }
     let options = match words.and_then(read) {
         Ok(Words::Help) => {
-            // Where standard output is closed nobody is there to be told.
+            // Where standard output is closed nobody reads it.
             let _ = std::io::stdout().write_all(help().as_bytes());
             return ExitCode::SUCCESS;
         }
@@ -89,7 +89,7 @@ fn main() -> ExitCode {
     }
     if let StoreFault::Stop(_) = fault {
         notify::stopping();
-        // What clients are told is on its way to them.
+        // Replies are on their way to clients.
         due.end(LAST_REPLIES);
         admin.remove();
     }
@@ -283,7 +283,7 @@ fn start(options: Options, due: Arc<Due>) -> Result<Serving, StoreFault> {
         plant,
         place,
     });
-    serving.tell_start();
+    serving.report_start();
     Ok(serving)
 }
 
@@ -319,7 +319,7 @@ fn begin(
     Host::open(&settings, disk, now).map_err(StoreFault::Start)
 }
 
-/// How the host goes about, by what it is told.
+/// How the host goes about, by the options.
 fn settings(options: &Options, identity: Identity) -> Result<Settings, StoreFault> {
     let cluster = Cluster::try_from(options.peers.len() as u8);
     let cluster = cluster.map_err(|_| StoreFault::Start(StartFault::OutOfRange))?;
@@ -360,7 +360,7 @@ fn bind(address: &str) -> Result<TcpListener, StoreFault> {
     TcpListener::bind(address).map_err(|error| StoreFault::Listen(address.into(), error))
 }
 
-/// SIGTERM and SIGINT have the store end once those who wait were told; a second one ends it at once.
+/// SIGTERM and SIGINT have the store end once those who wait were answered; a second one ends it at once.
 fn end_by_signals(events: SyncSender<Event>) -> io::Result<()> {
     let mut signals = Signals::new([SIGTERM, SIGINT])?;
     spawn("signals", move || {

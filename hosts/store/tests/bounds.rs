@@ -8,11 +8,11 @@ use std::net::TcpStream;
 use std::sync::Arc;
 use std::sync::atomic::{AtomicBool, Ordering};
 use std::time::{Duration, Instant};
-use store::client::{Client, Reply};
-use store::command_fault::CommandFault;
-use store::connections::Connections;
-use store::memory;
-use store::password::Password;
+use store::client::command_fault::CommandFault;
+use store::client::connections::Connections;
+use store::client::memory;
+use store::client::password::Password;
+use testing::client::{Client, Reply};
 
 fn refused(fault: CommandFault) -> Reply {
     Reply::Error(fault.to_string())
@@ -48,9 +48,9 @@ fn nothing_is_done_before_the_password() {
     let mut stranger = TcpStream::connect(("127.0.0.1", memory.port)).unwrap();
     stranger.write_all(b"*2\r\n$4\r\nAUTH\r\n$200000\r\n").unwrap();
     let _ = stranger.write_all(&[b'a'; 100_000]);
-    let mut told = String::new();
-    let _ = stranger.read_to_string(&mut told);
-    assert!(told.is_empty() || told == format!("-{}\r\n", CommandFault::NoMemory), "{told}");
+    let mut received = String::new();
+    let _ = stranger.read_to_string(&mut received);
+    assert!(received.is_empty() || received == format!("-{}\r\n", CommandFault::NoMemory), "{received}");
 }
 
 #[test]
@@ -68,8 +68,8 @@ fn unfinished_commands_take_what_they_are() {
     // Some were refused, and closed: there are 190,000 bytes for 22 of 40.
     let is_closed = |stream: &TcpStream| {
         stream.set_nonblocking(true).unwrap();
-        let told = (&*stream).read(&mut [0; 100]);
-        told.is_ok() || told.is_err_and(|error| error.kind() != std::io::ErrorKind::WouldBlock)
+        let result = (&*stream).read(&mut [0; 100]);
+        result.is_ok() || result.is_err_and(|error| error.kind() != std::io::ErrorKind::WouldBlock)
     };
     wait("the bound", || begun.iter().filter(|stream| is_closed(stream)).count() >= 15);
     // They make room again.
@@ -91,10 +91,10 @@ fn replies_that_nobody_takes_are_bounded() {
     greedy.set_write_timeout(Some(Duration::from_millis(200))).unwrap();
     let gets = b"GET x\r\n".repeat(3_000);
     let _ = greedy.write_all(&gets);
-    // Others are told so while it lasts, and go on once it is gone.
+    // Others get this error while it lasts, and go on once it is gone.
     drop(greedy);
-    let is_told = || memory.client().ask(&[b"GET", b"x"]).is_ok_and(|reply| matches!(reply, Reply::Bulk(Some(_))));
-    wait("room", is_told);
+    let is_answered = || memory.client().ask(&[b"GET", b"x"]).is_ok_and(|reply| matches!(reply, Reply::Bulk(Some(_))));
+    wait("room", is_answered);
 }
 
 #[test]
@@ -113,8 +113,8 @@ fn places_are_kept_for_who_asks_how_it_is() {
         client
     };
     let kept: Vec<_> = (0..15).map(|_| kept()).collect();
-    let told = memory.client().read();
-    assert!(told.is_err() || told.unwrap() == refused(CommandFault::NoPlace));
+    let reply = memory.client().read();
+    assert!(reply.is_err() || reply.unwrap() == refused(CommandFault::NoPlace));
     // One leaves, and another one is taken in its place.
     clients.pop();
     drop(kept);

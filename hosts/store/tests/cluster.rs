@@ -1,11 +1,11 @@
 //! Three stores around the proved program.
 mod common;
 use common::{Places, Store, wait};
-use store::client::Reply;
-use store::command_fault::CommandFault;
+use store::client::command_fault::CommandFault;
+use testing::client::Reply;
 
 #[test]
-fn after_a_restart_local_reads_tell_what_others_have_proposed() {
+fn after_a_restart_local_reads_see_what_others_have_proposed() {
     let places = Places::new("restart");
     let start = || [0, 1, 2].map(|replica| places.start(replica));
     let value = |number: usize| Reply::Bulk(Some(format!("value-{number}").into_bytes()));
@@ -36,7 +36,7 @@ fn set_keys(store: &Store, count: usize) {
     }
 }
 
-/// Waits until local reads tell all of these keys.
+/// Waits until local reads see all of these keys.
 fn wait_for_keys(store: &Store, count: usize) {
     for number in 0..count {
         let value = Reply::Bulk(Some(format!("value-{number}").into_bytes()));
@@ -94,7 +94,7 @@ fn alone_a_replica_proposes_nothing() {
     assert_eq!(store.info("instances_used"), used);
 }
 
-/// What only reads is told all that was acknowledged before, at any replica, and leaves nothing in any log.
+/// What only reads sees all that was acknowledged before, at any replica, and leaves nothing in any log.
 #[test]
 fn reads_write_nothing() {
     let places = Places::new("reads");

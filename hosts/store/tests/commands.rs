@@ -5,9 +5,9 @@ use common::{info, wait};
 use std::process::{Child, Command, Stdio};
 use std::thread;
 use std::time::{Duration, Instant};
-use store::client::{Client, Reply};
-use store::command_fault::CommandFault;
-use store::ports::Ports;
+use store::client::command_fault::CommandFault;
+use testing::client::{Client, Reply};
+use testing::ports::Ports;
 
 /// The words of a line: `""` is an empty one, `_` in a word a space.
 fn words(line: &str) -> Vec<Vec<u8>> {
@@ -20,16 +20,16 @@ fn ask(client: &mut Client, line: &str) -> Reply {
 }
 
 /// A reply as redis-cli prints it, in one line: `(nil)`, `(integer) 1`, `"text"`, `OK`, `(error) ..`, `[..]`, `{..}`.
-fn told(reply: &Reply) -> String {
+fn shown(reply: &Reply) -> String {
     match reply {
         Reply::Simple(text) => text.clone(),
         Reply::Error(text) => format!("(error) {text}"),
         Reply::Integer(number) => format!("(integer) {number}"),
         Reply::Bulk(None) => "(nil)".into(),
         Reply::Bulk(Some(bytes)) => format!("\"{}\"", bytes.escape_ascii()),
-        Reply::Array(items) => format!("[{}]", items.iter().map(told).collect::<Vec<_>>().join(", ")),
+        Reply::Array(items) => format!("[{}]", items.iter().map(shown).collect::<Vec<_>>().join(", ")),
         Reply::Map(pairs) => {
-            let pairs: Vec<_> = pairs.iter().map(|(name, item)| format!("{}: {}", told(name), told(item))).collect();
+            let pairs: Vec<_> = pairs.iter().map(|(name, item)| format!("{}: {}", shown(name), shown(item))).collect();
             format!("{{{}}}", pairs.join(", "))
         }
     }
@@ -445,14 +445,15 @@ const OWN: &[(&str, &str)] = &[
     ),
 ];
 
-/// Whether what was told is what was expected: of a time that is left as much less as has passed since it was set, at most so much.
-fn is_as_expected(line: &str, told: &str, expected: &str, passed: Duration) -> bool {
+/// Whether what was replied is what was expected: of a time that is left as much less as has passed since it was set,
+/// at most so much.
+fn is_as_expected(line: &str, shown: &str, expected: &str, passed: Duration) -> bool {
     let seconds = |text: &str| text.strip_prefix("(integer) ")?.parse::<u64>().ok();
-    match (line.starts_with("TTL "), seconds(told), seconds(expected)) {
-        (true, Some(told), Some(expected)) => {
-            (expected.saturating_sub(passed.as_secs() + 1)..=expected).contains(&told)
+    match (line.starts_with("TTL "), seconds(shown), seconds(expected)) {
+        (true, Some(shown), Some(expected)) => {
+            (expected.saturating_sub(passed.as_secs() + 1)..=expected).contains(&shown)
         }
-        _ => told == expected,
+        _ => shown == expected,
     }
 }
 
@@ -475,19 +476,19 @@ fn replies_are_those_of_redis() {
     let mut client = memory.client();
     let start = Instant::now();
     for (line, expected) in SAME.iter().chain(OWN) {
-        let told = told(&ask(&mut client, line));
-        assert!(is_as_expected(line, &told, expected, start.elapsed()), "{line}: {told}, and not {expected}");
+        let shown = shown(&ask(&mut client, line));
+        assert!(is_as_expected(line, &shown, expected, start.elapsed()), "{line}: {shown}, and not {expected}");
     }
     let Some(redis) = Redis::start() else { return };
     let mut client = Client::connect(redis.1.port(0), Duration::from_secs(60)).unwrap();
     let start = Instant::now();
     for (line, expected) in SAME {
-        let told = told(&ask(&mut client, line));
+        let shown = shown(&ask(&mut client, line));
         if expected.starts_with("(error)") {
-            assert_eq!(first_word(&told), first_word(expected), "{line}: {told}");
+            assert_eq!(first_word(&shown), first_word(expected), "{line}: {shown}");
         } else {
-            let is_expected = is_as_expected(line, &told, expected, start.elapsed());
-            assert!(is_expected, "Redis' reply to {line}: {told}, and not {expected}");
+            let is_expected = is_as_expected(line, &shown, expected, start.elapsed());
+            assert!(is_expected, "Redis' reply to {line}: {shown}, and not {expected}");
         }
     }
 }
@@ -500,18 +501,18 @@ fn values_live_as_long_as_they_are_to() {
     if let Some(redis) = &redis {
         within_a_time(|time| live_for(&mut Client::connect(redis.1.port(0), Duration::from_secs(60)).unwrap(), time));
     }
-    // A local read tells nil too.
+    // A local read replies nil too.
     let mut client = memory.client();
-    assert_eq!(told(&ask(&mut client, "READONLY")), "OK");
+    assert_eq!(shown(&ask(&mut client, "READONLY")), "OK");
     within_a_time(|time| {
-        let mut tell = |line: &str| told(&ask(&mut client, line));
+        let mut reply_to = |line: &str| shown(&ask(&mut client, line));
         let start = Instant::now();
-        assert_eq!(tell(&format!("SET x 1 PX {time}")), "OK");
-        let early = tell("GET x");
+        assert_eq!(reply_to(&format!("SET x 1 PX {time}")), "OK");
+        let early = reply_to("GET x");
         let is_in_time = start.elapsed() < Duration::from_millis(time);
         assert!(early == "\"1\"" || !is_in_time, "{early}");
         thread::sleep(Duration::from_millis(time) + PAST);
-        assert_eq!(tell("GET x"), "(nil)");
+        assert_eq!(reply_to("GET x"), "(nil)");
         is_in_time
     });
 }
@@ -519,12 +520,12 @@ fn values_live_as_long_as_they_are_to() {
 /// Values that live for so many milliseconds: whether all that has to be asked in this time was.
 fn live_for(client: &mut Client, time: u64) -> bool {
     let over = Duration::from_millis(time);
-    let mut tell = |line: &str| told(&ask(client, line));
-    tell("DEL x y");
+    let mut reply_to = |line: &str| shown(&ask(client, line));
+    reply_to("DEL x y");
     let start = Instant::now();
-    assert_eq!(tell(&format!("SET x 1 PX {time}")), "OK");
-    assert_eq!(tell(&format!("SET y 1 PX {time}")), "OK");
-    let longer = tell("PEXPIRE y 100000");
+    assert_eq!(reply_to(&format!("SET x 1 PX {time}")), "OK");
+    assert_eq!(reply_to(&format!("SET y 1 PX {time}")), "OK");
+    let longer = reply_to("PEXPIRE y 100000");
     let Reply::Integer(left) = ask(client, "PTTL x") else { panic!() };
     if start.elapsed() >= over {
         return false;
@@ -532,20 +533,20 @@ fn live_for(client: &mut Client, time: u64) -> bool {
     assert_eq!(longer, "(integer) 1");
     assert!((0..=time as i64).contains(&left), "{left}");
     thread::sleep(over + PAST);
-    let mut tell = |line: &str| told(&ask(client, line));
-    assert_eq!(tell("GET x"), "(nil)");
-    assert_eq!(tell("EXISTS x y"), "(integer) 1");
-    assert_eq!(tell("TTL x"), "(integer) -2");
+    let mut reply_to = |line: &str| shown(&ask(client, line));
+    assert_eq!(reply_to("GET x"), "(nil)");
+    assert_eq!(reply_to("EXISTS x y"), "(integer) 1");
+    assert_eq!(reply_to("TTL x"), "(integer) -2");
     let start = Instant::now();
-    assert_eq!(tell(&format!("SET x 2 NX PX {time}")), "OK");
-    let other = tell(&format!("SET x 3 NX PX {time}"));
+    assert_eq!(reply_to(&format!("SET x 2 NX PX {time}")), "OK");
+    let other = reply_to(&format!("SET x 3 NX PX {time}"));
     if start.elapsed() >= over {
         return false;
     }
     assert_eq!(other, "(nil)");
     thread::sleep(over + PAST);
-    assert_eq!(tell("INCR x"), "(integer) 1");
-    assert_eq!(tell("TTL x"), "(integer) -1");
+    assert_eq!(reply_to("INCR x"), "(integer) 1");
+    assert_eq!(reply_to("TTL x"), "(integer) -1");
     true
 }
 
@@ -554,11 +555,11 @@ fn locks_end_by_themselves() {
     let memory = Memory::start("locks", Duration::ZERO);
     let mut client = memory.client();
     within_a_time(|time| {
-        let mut tell = |line: &str| told(&ask(&mut client, line));
-        tell("DEL l");
+        let mut reply_to = |line: &str| shown(&ask(&mut client, line));
+        reply_to("DEL l");
         let start = Instant::now();
-        assert_eq!(tell(&format!("EPAXOS LOCK l me {time}")), "(integer) 1");
-        let other = tell("EPAXOS LOCK l you 1000");
+        assert_eq!(reply_to(&format!("EPAXOS LOCK l me {time}")), "(integer) 1");
+        let other = reply_to("EPAXOS LOCK l you 1000");
         if start.elapsed() >= Duration::from_millis(time) {
             return false;
         }
@@ -566,13 +567,13 @@ fn locks_end_by_themselves() {
         thread::sleep(Duration::from_millis(time) + PAST);
         true
     });
-    let mut tell = |line: &str| told(&ask(&mut client, line));
-    assert_eq!(tell("EPAXOS HOLDER l"), "(nil)");
-    assert_eq!(tell("EPAXOS RENEW l me 1000"), "(nil)");
-    assert_eq!(tell("EPAXOS UNLOCK l me"), "(integer) 0");
+    let mut reply_to = |line: &str| shown(&ask(&mut client, line));
+    assert_eq!(reply_to("EPAXOS HOLDER l"), "(nil)");
+    assert_eq!(reply_to("EPAXOS RENEW l me 1000"), "(nil)");
+    assert_eq!(reply_to("EPAXOS UNLOCK l me"), "(integer) 0");
     // Who comes later has a greater token, also the one who had it.
-    assert_eq!(tell("EPAXOS LOCK l me 100000"), "(integer) 2");
-    assert_eq!(tell("EPAXOS LOCK l you 1000"), "(nil)");
+    assert_eq!(reply_to("EPAXOS LOCK l me 100000"), "(integer) 2");
+    assert_eq!(reply_to("EPAXOS LOCK l you 1000"), "(nil)");
     let Reply::Array(holder) = ask(&mut client, "EPAXOS HOLDER l") else { panic!() };
     assert_eq!(holder[..2], [Reply::Bulk(Some(b"me".to_vec())), Reply::Integer(2)]);
     assert!(matches!(holder[2], Reply::Integer(1..=100_001)), "{holder:?}");
@@ -589,12 +590,12 @@ fn the_third_version_of_the_protocol() {
         assert!(pairs.chunks(2).any(|pair| pair == [Reply::Bulk(Some(b"proto".to_vec())), Reply::Integer(2)]));
         let Reply::Map(pairs) = ask(client, "HELLO 3 SETNAME me") else { panic!() };
         assert!(pairs.contains(&(Reply::Bulk(Some(b"proto".to_vec())), Reply::Integer(3))));
-        assert_eq!(told(&ask(client, "CLIENT GETNAME")), "\"me\"");
-        assert_eq!(told(&ask(client, "CONFIG GET save")), "{\"save\": \"\"}");
-        assert_eq!(told(&ask(client, "GET none")), "(nil)");
-        assert_eq!(told(&ask(client, "RESET")), "RESET");
-        assert_eq!(told(&ask(client, "CONFIG GET save")), "[\"save\", \"\"]");
-        assert_eq!(told(&ask(client, "CLIENT GETNAME")), "(nil)");
+        assert_eq!(shown(&ask(client, "CLIENT GETNAME")), "\"me\"");
+        assert_eq!(shown(&ask(client, "CONFIG GET save")), "{\"save\": \"\"}");
+        assert_eq!(shown(&ask(client, "GET none")), "(nil)");
+        assert_eq!(shown(&ask(client, "RESET")), "RESET");
+        assert_eq!(shown(&ask(client, "CONFIG GET save")), "[\"save\", \"\"]");
+        assert_eq!(shown(&ask(client, "CLIENT GETNAME")), "(nil)");
     }
 }
 
@@ -604,9 +605,9 @@ fn scripts_of_locks() {
     let mut client = memory.client();
     let unlock = "if redis.call(\"get\",KEYS[1]) == ARGV[1] then\n    return redis.call(\"del\",KEYS[1])\nelse\n    return 0\nend";
     let eval = |client: &mut Client, value: &str| {
-        told(&client.ask(&[b"EVAL", unlock.as_bytes(), b"1", b"lock", value.as_bytes()]).unwrap())
+        shown(&client.ask(&[b"EVAL", unlock.as_bytes(), b"1", b"lock", value.as_bytes()]).unwrap())
     };
-    assert_eq!(told(&ask(&mut client, "SET lock a NX PX 30000")), "OK");
+    assert_eq!(shown(&ask(&mut client, "SET lock a NX PX 30000")), "OK");
     assert_eq!(eval(&mut client, "b"), "(integer) 0");
     assert_eq!(eval(&mut client, "a"), "(integer) 1");
     assert_eq!(eval(&mut client, "a"), "(integer) 0");
@@ -614,35 +615,35 @@ fn scripts_of_locks() {
     let odd = client.ask(&[b"EVAL", b"return 1", b"0"]).unwrap();
     assert_eq!(odd, Reply::Error(CommandFault::Script.to_string()));
     let left = |client: &mut Client, expected: &str| {
-        let told = told(&ask(client, "TTL lock"));
-        assert!(is_as_expected("TTL lock", &told, expected, start.elapsed()), "{told}, and not {expected}");
+        let shown = shown(&ask(client, "TTL lock"));
+        assert!(is_as_expected("TTL lock", &shown, expected, start.elapsed()), "{shown}, and not {expected}");
     };
     // (the digests are of redis-py's lock.py)
     let extend = "EVALSHA a4e8783852e6b949f9ef3a97212805108459a890 1 lock a";
-    assert_eq!(told(&ask(&mut client, &format!("{extend} 1000 0"))), "(integer) 0");
-    assert_eq!(told(&ask(&mut client, "SET lock a")), "OK");
+    assert_eq!(shown(&ask(&mut client, &format!("{extend} 1000 0"))), "(integer) 0");
+    assert_eq!(shown(&ask(&mut client, "SET lock a")), "OK");
     // (what has no deadline isn't extended)
-    assert_eq!(told(&ask(&mut client, &format!("{extend} 1000 0"))), "(integer) 0");
-    assert_eq!(told(&ask(&mut client, &format!("{extend} 1000 1"))), "(integer) 0");
-    assert_eq!(told(&ask(&mut client, "SET lock a PX 100000")), "OK");
-    assert_eq!(told(&ask(&mut client, &format!("{extend} 100000 0"))), "(integer) 1");
+    assert_eq!(shown(&ask(&mut client, &format!("{extend} 1000 0"))), "(integer) 0");
+    assert_eq!(shown(&ask(&mut client, &format!("{extend} 1000 1"))), "(integer) 0");
+    assert_eq!(shown(&ask(&mut client, "SET lock a PX 100000")), "OK");
+    assert_eq!(shown(&ask(&mut client, &format!("{extend} 100000 0"))), "(integer) 1");
     left(&mut client, "(integer) 200");
-    assert_eq!(told(&ask(&mut client, &format!("{extend} 50000 1"))), "(integer) 1");
+    assert_eq!(shown(&ask(&mut client, &format!("{extend} 50000 1"))), "(integer) 1");
     left(&mut client, "(integer) 50");
     assert_eq!(
-        told(&ask(&mut client, "EVALSHA 1cac51482acf5858da00f6d685d68f886cd6b6b2 1 lock b 70000")),
+        shown(&ask(&mut client, "EVALSHA 1cac51482acf5858da00f6d685d68f886cd6b6b2 1 lock b 70000")),
         "(integer) 0"
     );
     assert_eq!(
-        told(&ask(&mut client, "EVALSHA 1CAC51482acf5858da00f6d685d68f886cd6b6b2 1 lock a 70000")),
+        shown(&ask(&mut client, "EVALSHA 1CAC51482acf5858da00f6d685d68f886cd6b6b2 1 lock a 70000")),
         "(integer) 1"
     );
     left(&mut client, "(integer) 70");
-    assert_eq!(told(&ask(&mut client, "EVALSHA c3f8721cbb97f72bc19e972846bd7aaf91901658 1 lock b")), "(integer) 0");
-    assert_eq!(told(&ask(&mut client, "EVALSHA c3f8721cbb97f72bc19e972846bd7aaf91901658 1 lock a")), "(integer) 1");
-    assert_eq!(told(&ask(&mut client, "GET lock")), "(nil)");
+    assert_eq!(shown(&ask(&mut client, "EVALSHA c3f8721cbb97f72bc19e972846bd7aaf91901658 1 lock b")), "(integer) 0");
+    assert_eq!(shown(&ask(&mut client, "EVALSHA c3f8721cbb97f72bc19e972846bd7aaf91901658 1 lock a")), "(integer) 1");
+    assert_eq!(shown(&ask(&mut client, "GET lock")), "(nil)");
     assert_eq!(
-        told(&ask(&mut client, "SCRIPT EXISTS c3f8721cbb97f72bc19e972846bd7aaf91901658 00")),
+        shown(&ask(&mut client, "SCRIPT EXISTS c3f8721cbb97f72bc19e972846bd7aaf91901658 00")),
         "[(integer) 1, (integer) 0]"
     );
 }
@@ -652,7 +653,7 @@ fn sizes() {
     let memory = Memory::start("sizes", Duration::ZERO);
     let mut client = memory.client();
     let long = vec![0xff; 65_525];
-    let mut set = |words: &[&[u8]]| told(&client.ask(words).unwrap());
+    let mut set = |words: &[&[u8]]| shown(&client.ask(words).unwrap());
     assert_eq!(set(&[b"SET", b"x", &long, b"EX", b"100"]), "OK");
     assert_eq!(set(&[b"STRLEN", b"x"]), "(integer) 65525");
     assert_eq!(set(&[b"APPEND", b"x", b"a"]), "(error) ERR string exceeds maximum allowed size (65525 bytes)");
@@ -706,7 +707,7 @@ fn a_pipeline_is_one() {
     let lines: Vec<_> = lines.iter().map(|line| words(line)).collect();
     let commands: Vec<Vec<&[u8]>> = lines.iter().map(|words| words.iter().map(Vec::as_slice).collect()).collect();
     client.send(&commands.iter().map(Vec::as_slice).collect::<Vec<_>>()).unwrap();
-    let replies: Vec<_> = lines.iter().map(|_| told(&client.read().unwrap())).collect();
+    let replies: Vec<_> = lines.iter().map(|_| shown(&client.read().unwrap())).collect();
     assert_eq!(
         replies,
         [
@@ -738,7 +739,7 @@ fn a_pipeline_is_one() {
         [Reply::Simple("OK".into()), Reply::Simple("OK".into())]
     );
     assert!(client.read().is_err());
-    assert_eq!(told(&ask(&mut memory.client(), "GET a")), "\"5\"");
+    assert_eq!(shown(&ask(&mut memory.client(), "GET a")), "\"5\"");
 }
 
 #[test]
@@ -757,7 +758,7 @@ fn many_clients_of_one_key_share_commands() {
                 });
             }
         });
-        assert_eq!(told(&ask(&mut memory.client(), "GET hot")), format!("\"{}\"", clients * each));
+        assert_eq!(shown(&ask(&mut memory.client(), "GET hot")), format!("\"{}\"", clients * each));
         start.elapsed() < Duration::from_secs(4)
     });
 }

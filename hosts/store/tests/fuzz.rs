@@ -1,19 +1,19 @@
 //! Bytes by chance, and true ones that were changed, at what reads clients' commands and at what reads what comes to the peers' port: it never
-//! panics, tells the same however the bytes come, takes no more than it should, and nothing that isn't authentic. `FUZZ_SECONDS` has each go on
-//! for longer than its second.
+//! panics, replies the same however the bytes come, takes no more than it should, and nothing that isn't authentic.
+//! `FUZZ_SECONDS` has each go on for longer than its second.
 use epaxos::{Fields, Instance, Receipt};
 use std::io::{self, Read, Write};
 use std::os::unix::fs::PermissionsExt;
 use std::time::{Duration, Instant};
-use store::commands::understand;
+use store::client::commands::understand;
+use store::client::malformed_fault::MalformedFault;
+use store::client::resp::{Input, read_command};
 use store::commits::Committed;
 use store::frames::Head;
-use store::malformed_fault::MalformedFault;
 use store::members::Members;
 use store::messages::Message;
+use store::peer::sealed::{self, Direction, Hello, Key, MAGIC};
 use store::random::Random;
-use store::resp::{Input, read_command};
-use store::sealed::{self, Direction, Hello, Key, MAGIC};
 
 /// What it begins with: commands, whole and not.
 const SEEDS: [&[u8]; 10] = [
@@ -84,7 +84,7 @@ fn commands_by_chance() {
         }
         change(&mut bytes, &SEEDS, &mut random);
         let (whole, fault) = read(&bytes);
-        // What came first tells the same as a beginning of all, and no fault is mended by what follows.
+        // What came first means the same as a beginning of all, and no fault is mended by what follows.
         let cut = random.below(bytes.len() as u64 + 1) as usize;
         let (first, early) = read(&bytes[..cut]);
         assert!(whole.starts_with(&first), "{}", bytes.escape_ascii());
@@ -119,7 +119,7 @@ impl Write for Written<'_> {
     }
 }
 
-/// What hosts and nodes tell one another.
+/// What hosts and nodes send one another.
 fn messages() -> Vec<Vec<u8>> {
     // (client 1's request 2 in 1.2, by entry 4 of replica 1 with stamp 5: absent)
     let mut receipt = vec![0, 0, 0, 1, 0, 0, 0, 2, 1, 0, 2, 0, 0, 0, 0, 0, 0, 0, 3, 1, 0, 0, 0, 4];
@@ -167,12 +167,12 @@ fn messages_of_peers_by_chance() {
         }
         change(&mut bytes, &seeds, &mut random);
         rounds += 1;
-        // What a peer's host may tell, once it is authentic.
+        // What a peer's host may send, once it is authentic.
         if let Some(message) = Message::read(&bytes) {
             assert_eq!(message.write(), bytes);
         }
         let _ = (Head::read(&bytes), Members::read(&bytes), Receipt::read(&mut Fields::new(&bytes)));
-        // A stranger, who hasn't the key: it is told the same few bytes whatever it says, and nothing of it is taken.
+        // A stranger, who hasn't the key: it is sent the same few bytes whatever it says, and nothing of it is taken.
         let hello = Hello::new(MAGIC, [3, 0, 1]).unwrap();
         let mut stranger = Vec::new();
         let mut channel = sealed::answer(&mut stranger, &key, &hello).unwrap();

@@ -5,7 +5,7 @@ use std::cell::Cell;
 use std::fs;
 use std::path::Path;
 use std::process::Command;
-use store::client::Reply;
+use testing::client::Reply;
 
 /// A generation ends after so few commands.
 const SHORT: [&str; 2] = ["--seal-numbers", "20"];
@@ -29,7 +29,7 @@ fn generation(store: &Store) -> usize {
 
 /// Asks until it is done: a peer may be lost for a while, or not have greeted this replica yet.
 fn operate(store: &Store, line: &str) {
-    wait(line, || matches!(store.operate(line), Reply::Bulk(Some(told)) if told.starts_with(b"generation ")));
+    wait(line, || matches!(store.operate(line), Reply::Bulk(Some(text)) if text.starts_with(b"generation ")));
 }
 
 /// The store has all these keys, and is asked without the others.
@@ -147,22 +147,22 @@ fn who_lags_is_handed_a_short_map_whole() {
     }
     drop((zero, one));
     let [_zero, _one, two] = [0, 1, 2].map(start);
-    two.tells("is taken from a peer");
+    two.await_logged("is taken from a peer");
     has_all(&two, 0..10);
     // (where the machine is slow a generation may have ended by itself)
     let whole = |it: usize| places.directory(it % 2).join(format!("generations/{}/whole", it / 2));
     assert!((2 * 2..=2 * generation(&two) + 1).any(|it| whole(it).exists()));
 }
 
-/// Starts a machine that is to be let in by these words, and waits until it has told its identity.
+/// Starts a machine that is to be let in by these words, and waits until it has logged its identity.
 fn join(places: &Places, words: Command, replica: usize) -> (Store, String) {
     let mut command = Command::new(env!("CARGO_BIN_EXE_store"));
     // (an empty folder gets `--new` there)
     command.args(words.get_args().filter(|word| *word != "--new")).arg("--join");
     let store = places.launch(&mut command, replica);
     let wish = format!("EPAXOS REPLACE {replica} ");
-    store.tells(&wish);
-    let identity = store.told().split_once(&wish).unwrap().1[..32].to_string();
+    store.await_logged(&wish);
+    let identity = store.logged().split_once(&wish).unwrap().1[..32].to_string();
     (store, identity)
 }
 
@@ -170,7 +170,7 @@ fn join(places: &Places, words: Command, replica: usize) -> (Store, String) {
 fn meets(store: &Store, replica: usize, identity: &str) {
     let line = format!("{replica} {identity} waits to be let in");
     let is_met =
-        |told: Reply| matches!(told, Reply::Bulk(Some(text)) if String::from_utf8_lossy(&text).contains(&line));
+        |reply: Reply| matches!(reply, Reply::Bulk(Some(text)) if String::from_utf8_lossy(&text).contains(&line));
     wait("the new machine", || is_met(store.operate("EPAXOS MEMBERS")));
 }
 
@@ -188,7 +188,7 @@ fn who_lags_is_handed_logs() {
     }
     drop((zero, one));
     let [zero, one, two] = [0, 1, 2].map(start);
-    two.tells("is taken from a peer");
+    two.await_logged("is taken from a peer");
     has_all(&two, 0..160);
     set(&[&two], 160..170);
     // Now its machine is lost.
@@ -197,7 +197,7 @@ fn who_lags_is_handed_logs() {
     let (two, identity) = join(&places, places.command_of(2, 3), 2);
     meets(&one, 2, &identity);
     operate(&one, &format!("EPAXOS REPLACE 2 {identity}"));
-    two.tells(SERVES);
+    two.await_logged(SERVES);
     has_all(&two, 0..170);
     set(&[&zero, &one, &two], 170..180);
     for replica in [0, 1] {
@@ -225,11 +225,11 @@ fn three_become_five_and_three_again() {
     let line = format!("EPAXOS RESIZE 5 3 {of_three} {at_three} 4 {of_four} {at_four}");
     operate(&zero, &line);
     for store in [&three, &four] {
-        store.tells(SERVES);
+        store.await_logged(SERVES);
     }
     let two = places.start_with(2, &SHORT);
     for store in [&zero, &one, &two] {
-        store.tells("of 5 in generation");
+        store.await_logged("of 5 in generation");
     }
     // Asked again, as by somebody who has lost the answer, it is so.
     let again = zero.operate(&line);
@@ -243,22 +243,22 @@ fn three_become_five_and_three_again() {
     let (one, identity) = join(&places, places.command(1), 1);
     meets(&zero, 1, &identity);
     operate(&zero, &format!("EPAXOS REPLACE 1 {identity}"));
-    one.tells("of 5 in generation");
+    one.await_logged("of 5 in generation");
     has_all(&one, 0..100);
     // It stays so, whatever `--peers` of the first ones says.
     drop(zero);
     set(&[&one, &two, &three, &four], 100..120);
     let zero = places.start_with(0, &SHORT);
-    assert!(zero.told().contains("of 5 in generation"));
+    assert!(zero.logged().contains("of 5 in generation"));
     has_all(&zero, 0..120);
     assert!(matches!(zero.operate("EPAXOS RESIZE 3"), Reply::Bulk(Some(_))));
     for store in [&mut three, &mut four] {
         assert_eq!(store.status(), Some(3));
-        assert!(store.told().contains("takes part no more"));
+        assert!(store.logged().contains("takes part no more"));
     }
     for store in [&zero, &one, &two] {
-        let told = |size: usize| store.told().rfind(&format!("of {size} in generation"));
-        wait("the others", || told(3) > told(5));
+        let place_of = |size: usize| store.logged().rfind(&format!("of {size} in generation"));
+        wait("the others", || place_of(3) > place_of(5));
         has_all(store, 0..120);
     }
     let again = zero.operate("EPAXOS RESIZE 3");
@@ -276,11 +276,11 @@ fn who_leaves_and_is_started_again_serves_on() {
 fn has_left_and_serves_on() -> bool {
     let places = Places::new("leaves");
     let stores = [0, 1, 2, 3, 4].map(|replica| places.launch(&mut places.command_of(replica, 5), replica));
-    stores.iter().for_each(|store| store.tells(SERVES));
+    stores.iter().for_each(|store| store.await_logged(SERVES));
     set(&stores.each_ref(), 0..10);
     // (it is asked at one that leaves, which may serve for long yet)
-    let told = stores[4].operate("EPAXOS RESIZE 3");
-    if !matches!(&told, Reply::Bulk(Some(text)) if text.ends_with(b"generation 2, of 3 replicas")) {
+    let reply = stores[4].operate("EPAXOS RESIZE 3");
+    if !matches!(&reply, Reply::Bulk(Some(text)) if text.ends_with(b"generation 2, of 3 replicas")) {
         return false;
     }
     let [zero, one, two, three, mut four] = stores;
@@ -291,11 +291,11 @@ fn has_left_and_serves_on() -> bool {
     // (as it was before it began the next generation)
     fs::remove_file(places.directory(4).join("generations/1/left")).unwrap();
     let mut four = start();
-    four.tells("replica 4 of 5 in generation 1");
+    four.await_logged("replica 4 of 5 in generation 1");
     if four.info("generation_sealed") == "0" {
         return false;
     }
-    four.tells("takes part no more: it serves generation 1 until a majority of the others has left it");
+    four.await_logged("takes part no more: it serves generation 1 until a majority of the others has left it");
     assert_eq!((generation(&four), four.info("generation_sealed")), (1, "1".into()));
     for line in ["SET key-0 other", "GET key-0"] {
         assert!(matches!(four.ask(line), Reply::Error(text) if text.contains("the store ends")));
@@ -320,7 +320,7 @@ fn a_lost_machine_is_replaced() {
     assert!(matches!(ask(&mut two.client(), "SET x 1"), Reply::Error(_)));
     meets(&one, 2, &identity);
     operate(&one, &format!("EPAXOS REPLACE 2 {identity}"));
-    two.tells(SERVES);
+    two.await_logged(SERVES);
     has_all(&two, 0..100);
     set(&[&zero, &one, &two], 100..130);
     // The old machine is refused.
@@ -328,7 +328,7 @@ fn a_lost_machine_is_replaced() {
     wait("its folder", || fs::rename(places.directory(2), places.folder.join("new")).is_ok());
     copy(&places.folder.join("lost"), &places.directory(2));
     let mut old = places.launch(&mut places.command(2), 2);
-    old.tells("knows another replica under this one's number");
+    old.await_logged("knows another replica under this one's number");
     assert!(matches!(old.ask("SET x 1"), Reply::Error(_)));
     assert_eq!(old.end("TERM"), Some(0));
 }
@@ -350,7 +350,7 @@ fn an_older_copy_of_a_folder_does_not_speak() {
     copy(&places.folder.join("older"), &places.directory(2));
     let mut two = places.launch(&mut places.command(2), 2);
     assert_eq!(two.status(), Some(3));
-    assert!(two.told().contains("the folder is an older copy"), "{}", two.told());
+    assert!(two.logged().contains("the folder is an older copy"), "{}", two.logged());
 }
 
 #[test]
@@ -372,7 +372,7 @@ fn an_older_copy_is_known_by_the_others_logs() {
     let others = [0, 1].map(|replica| places.start(replica));
     let mut two = places.launch(&mut places.command_of(2, 3), 2);
     assert_eq!(two.status(), Some(3));
-    assert!(two.told().contains("the folder is an older copy"), "{}", two.told());
+    assert!(two.logged().contains("the folder is an older copy"), "{}", two.logged());
     set(&others.each_ref(), 30..35);
 }
 
@@ -385,11 +385,11 @@ fn the_map_takes_no_more_than_it_may() {
     let set = |store: &Store, number: usize| store.ask(&format!("SET key-{number:03} {number:0100}"));
     let is_full = |reply: &Reply| matches!(reply, Reply::Error(text) if text.starts_with("OOM "));
     // (a key takes 112 bytes)
-    let (mut told, mut full) = (Vec::new(), [false; 3]);
+    let (mut answered, mut full) = (Vec::new(), [false; 3]);
     for number in 0..600 {
         let place = number % 3;
         match set(stores[place], number) {
-            Reply::Simple(_) => told.push(number),
+            Reply::Simple(_) => answered.push(number),
             reply => full[place] |= is_full(&reply),
         }
         if full == [true; 3] {
@@ -402,10 +402,13 @@ fn the_map_takes_no_more_than_it_may() {
         zero.info("map_bytes").parse::<usize>().unwrap()
     };
     let bytes = map();
-    assert!((20_000 * 15 / 16 - 112 * 3..=20_000).contains(&bytes) && bytes == 112 * told.len(), "{bytes}");
-    assert_eq!(one.ask(&format!("GET key-{:03}", told[7])), Reply::Bulk(Some(format!("{:0100}", told[7]).into())));
+    assert!((20_000 * 15 / 16 - 112 * 3..=20_000).contains(&bytes) && bytes == 112 * answered.len(), "{bytes}");
+    assert_eq!(
+        one.ask(&format!("GET key-{:03}", answered[7])),
+        Reply::Bulk(Some(format!("{:0100}", answered[7]).into()))
+    );
     assert!(is_full(&set(&two, 999)));
-    for number in &told[..60] {
+    for number in &answered[..60] {
         assert_eq!(one.ask(&format!("DEL key-{number:03}")), Reply::Integer(1));
     }
     assert_eq!(map(), bytes - 60 * 112);

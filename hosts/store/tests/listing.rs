@@ -5,8 +5,8 @@ use common::{Places, ask, info, wait};
 use std::sync::Arc;
 use std::thread;
 use std::time::{Duration, Instant};
-use store::client::{Client, Reply};
-use store::sweep::sweep;
+use store::core::sweep::sweep;
+use testing::client::{Client, Reply};
 
 /// How many keys there are, with those that are hidden.
 fn kept(client: &mut Client) -> usize {

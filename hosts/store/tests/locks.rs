@@ -1,4 +1,4 @@
-//! Locks under kills: clients take, renew and give back locks at three replicas while these are killed, and note what they were told. Then
+//! Locks under kills: clients take, renew and give back locks at three replicas while these are killed, and note what they were answered. Then
 //! no two of them had a lock at one time, and tokens rise. `LOCKS_SECONDS` has it go on for longer than its few seconds.
 mod common;
 use common::Places;
@@ -6,8 +6,8 @@ use std::sync::Mutex;
 use std::sync::atomic::{AtomicBool, AtomicUsize, Ordering};
 use std::thread;
 use std::time::{Duration, Instant};
-use store::client::{Client, Reply};
 use store::random::Random;
+use testing::client::{Client, Reply};
 
 const LOCKS: u64 = 4;
 const CLIENTS: usize = 12;
@@ -20,7 +20,8 @@ const LEAST_HELD: usize = 20;
 /// but no longer than this.
 const MOST_TIME: Duration = Duration::from_secs(300);
 
-/// That an owner has a lock: surely from when it was told so, until it begins to give it back or its time may be over.
+/// That an owner has a lock: surely from when the reply said so, until it begins to give it back or its time may be
+/// over.
 #[derive(Clone, Copy, PartialEq, Eq, Debug)]
 struct Held {
     lock: u64,
@@ -125,7 +126,7 @@ impl Owner<'_> {
         if self.random.below(3) == 0 {
             let asked = self.start.elapsed();
             match self.ask(&["EPAXOS", "RENEW", &key, &owner, &time.to_string()]) {
-                // (told after the time was over it would be of no use)
+                // (answered after the time was over it would be of no use)
                 Some(Reply::Integer(renewed)) => {
                     assert_eq!(renewed, token);
                     held.until = asked + Duration::from_millis(time);

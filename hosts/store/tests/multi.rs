@@ -4,7 +4,7 @@ use common::memory::Memory;
 use common::{ask, info, wait};
 use std::thread;
 use std::time::Duration;
-use store::client::{Client, Reply};
+use testing::client::{Client, Reply};
 
 const CLIENTS: usize = 8;
 
@@ -203,10 +203,10 @@ fn what_expires_is_gone_in_transactions() {
         thread::sleep(Duration::from_millis(40));
         let watched = exec(client, &["SET new 1".into()]);
         assert!(!is_there || watched == Reply::Bulk(None));
-        let told = exec(client, &["SET new 2".into(), "GET other".into(), "TTL old".into(), "EXISTS none".into()]);
+        let reply = exec(client, &["SET new 2".into(), "GET other".into(), "TTL old".into(), "EXISTS none".into()]);
         let nothing =
             Reply::Array(vec![Reply::Simple("OK".into()), Reply::Bulk(None), Reply::Integer(-2), Reply::Integer(0)]);
-        assert_eq!(told, nothing);
+        assert_eq!(reply, nothing);
         // (the map has them no more)
         assert!(info(client).contains("keys_kept:1\r\n"));
         is_there

@@ -4,12 +4,12 @@ use common::{Places, SERVES, Store, ask, wait};
 use std::fs;
 use std::os::unix::fs::PermissionsExt;
 use std::process::Command;
-use store::client::{Client, Reply};
+use testing::client::{Client, Reply};
 
 const MADE_UP: &str = "00112233445566778899aabbccddeeff";
 
 /// The text of a reply that is no error.
-fn told(reply: Reply) -> String {
+fn text(reply: Reply) -> String {
     match reply {
         Reply::Bulk(Some(text)) => String::from_utf8(text).unwrap(),
         reply => panic!("{reply:?}"),
@@ -49,8 +49,8 @@ fn join(places: &Places, replica: usize, at: usize) -> (Store, String, String) {
     command.args(["--listen", &places.port(at).to_string()]).arg("--dir").arg(places.directory(at));
     let store = places.launch(&mut command, at);
     let wish = format!("EPAXOS REPLACE {replica} ");
-    store.tells(&wish);
-    let identity = store.told().split_once(&wish).unwrap().1[..32].to_string();
+    store.await_logged(&wish);
+    let identity = store.logged().split_once(&wish).unwrap().1[..32].to_string();
     (store, identity, places.peer(at))
 }
 
@@ -95,7 +95,7 @@ fn by_tcp_a_password_comes_first() {
     for place in [format!("0.0.0.0:{port}"), port.to_string()] {
         let mut refused = places.launch(places.command(0).args(["--admin", &place]), 0);
         assert_eq!(refused.status(), Some(2));
-        assert!(refused.told().contains("needs a password: add --admin-auth FILE"), "{}", refused.told());
+        assert!(refused.logged().contains("needs a password: add --admin-auth FILE"), "{}", refused.logged());
     }
     let words = ["--admin", &format!("0.0.0.0:{port}"), "--admin-auth", secret.to_str().unwrap()];
     let store = places.start_with(0, &words);
@@ -118,7 +118,7 @@ fn made_up_machines_end_no_cluster() {
     set(&[zero, one, two], 0..10);
     // Looks change nothing, and are for all.
     for members in [zero.ask("EPAXOS MEMBERS"), zero.operate("EPAXOS MEMBERS")] {
-        assert!(told(members).starts_with("generation 1\n0 "));
+        assert!(text(members).starts_with("generation 1\n0 "));
     }
     let grown = (3..7).map(|number| format!(" {number} {MADE_UP} A")).collect::<String>();
     is_refused(&zero.operate(&format!("EPAXOS RESIZE 7{grown}")), &["waits to join as replica 3", "--join"]);
@@ -150,9 +150,9 @@ fn a_machine_is_let_in_that_waits_at_its_address() {
     set(&[&zero, &one, &two], 0..10);
     wait_for_peers(&zero, &[1, 2]);
     let (new, identity, address) = join(&places, 2, 4);
-    wait("its greeting", || told(zero.ask("EPAXOS MEMBERS")).contains(&format!("2 {identity} waits to be let in")));
-    new.tells("hasn't let this machine in yet");
-    assert!(!new.told().contains("must not come back"), "{}", new.told());
+    wait("its greeting", || text(zero.ask("EPAXOS MEMBERS")).contains(&format!("2 {identity} waits to be let in")));
+    new.await_logged("hasn't let this machine in yet");
+    assert!(!new.logged().contains("must not come back"), "{}", new.logged());
     let line = format!("EPAXOS REPLACE 2 {identity}");
     is_refused(&zero.operate(&format!("{line} {address}")), &["replica 2 is reachable", "FORCE"]);
     // Its address is looked at too.
@@ -160,13 +160,13 @@ fn a_machine_is_let_in_that_waits_at_its_address() {
     let of_two = places.peer(2);
     is_refused(&zero.operate(&format!("{line} {of_two} FORCE")), &[&format!("the machine at {of_two} has identity ")]);
     assert_eq!(zero.info("generation"), "1");
-    assert!(told(zero.operate(&format!("{line} {address} FORCE"))).starts_with("generation "));
+    assert!(text(zero.operate(&format!("{line} {address} FORCE"))).starts_with("generation "));
     // The old one is thrown out, and the new one takes its place.
-    two.tells("this one must not come back");
-    new.tells(SERVES);
+    two.await_logged("this one must not come back");
+    new.await_logged(SERVES);
     has_all(&new, 0..10);
     set(&[&zero, &one, &new], 10..20);
     // Asked again it is so.
     let now = format!("generation {}", zero.info("generation"));
-    assert_eq!(told(zero.operate(&format!("{line} {address}"))), now);
+    assert_eq!(text(zero.operate(&format!("{line} {address}"))), now);
 }

@@ -2,7 +2,7 @@
 mod common;
 use common::{Places, SERVES, Store, wait};
 use std::process::{Command, Output};
-use store::client::Reply;
+use testing::client::Reply;
 
 fn set(stores: &[&Store], numbers: std::ops::Range<usize>) {
     for number in numbers {
@@ -26,8 +26,8 @@ fn join(places: &Places, (replica, count): (usize, usize), at: usize) -> (Store,
     command.args(["--listen", &places.port(at).to_string()]).arg("--dir").arg(places.directory(at));
     let store = places.launch(&mut command, at);
     let wish = format!("EPAXOS REPLACE {replica} ");
-    store.tells(&wish);
-    let identity = store.told().split_once(&wish).unwrap().1[..32].to_string();
+    store.await_logged(&wish);
+    let identity = store.logged().split_once(&wish).unwrap().1[..32].to_string();
     (store, format!("{replica} {identity} {}", places.peer(at)))
 }
 
@@ -36,7 +36,7 @@ fn operate(store: &Store, line: &str) {
     wait(line, || matches!(store.operate(line), Reply::Bulk(Some(_))));
 }
 
-/// Has `store recover` look at these replicas' folders: its status, and what it tells.
+/// Has `store recover` look at these replicas' folders: its status, and what it prints.
 fn recover(places: &Places, words: &[&str], replicas: &[usize]) -> (i32, String) {
     let mut command = Command::new(env!("CARGO_BIN_EXE_store"));
     command.arg("recover").args(words);
@@ -45,16 +45,16 @@ fn recover(places: &Places, words: &[&str], replicas: &[usize]) -> (i32, String)
     (status.code().unwrap(), String::from_utf8([stdout, stderr].concat()).unwrap())
 }
 
-/// The same where it is done, and tells all of these.
+/// The same where it is done, and prints all of these.
 fn recovered(places: &Places, words: &[&str], replicas: &[usize], parts: &[&str]) {
-    let (status, told) = recover(places, words, replicas);
-    assert!(status == 0 && parts.iter().all(|part| told.contains(part)), "{status} {told}");
+    let (status, printed) = recover(places, words, replicas);
+    assert!(status == 0 && parts.iter().all(|part| printed.contains(part)), "{status} {printed}");
 }
 
 /// The same where it isn't done, and nothing is changed.
 fn refused(places: &Places, words: &[&str], replicas: &[usize], part: &str) {
-    let (status, told) = recover(places, words, replicas);
-    assert!(status == 3 && told.contains("nothing was changed: ") && told.contains(part), "{status} {told}");
+    let (status, printed) = recover(places, words, replicas);
+    assert!(status == 3 && printed.contains("nothing was changed: ") && printed.contains(part), "{status} {printed}");
 }
 
 fn has_opening(places: &Places, replica: usize) -> bool {
@@ -70,11 +70,11 @@ fn four_new_machines_are_lost() {
     let named: Vec<&str> = new.iter().map(|(_, named)| named.as_str()).collect();
     operate(&stores[0], &format!("EPAXOS RESIZE 7 {}", named.join(" ")));
     for (store, _) in &new {
-        store.tells("of 7 in generation 2");
+        store.await_logged("of 7 in generation 2");
     }
     drop(new);
     for store in &stores {
-        store.tells("of 7 in generation 2");
+        store.await_logged("of 7 in generation 2");
         wait("their loss", || (3..7).all(|peer| store.info(&format!("peer_{peer}")) == "lost"));
     }
     // Nothing can be done, not even undo it.
@@ -106,7 +106,7 @@ fn four_new_machines_are_lost() {
     // They go on, by the words that they had.
     let stores = [0, 1, 2].map(|replica| places.start(replica));
     for store in &stores {
-        assert!(store.told().contains("of 3 in generation 1"), "{}", store.told());
+        assert!(store.logged().contains("of 3 in generation 1"), "{}", store.logged());
         has_all(store, 0..30);
     }
     set(&stores.each_ref(), 30..60);
@@ -115,7 +115,7 @@ fn four_new_machines_are_lost() {
     stores.iter().for_each(|store| has_all(store, 0..60));
     // One of the four that comes back all the same does nothing by itself.
     let three = places.launch(places.command_of(3, 7).args(["--patience", "5"]), 3);
-    three.tells(SERVES);
+    three.await_logged(SERVES);
     assert!(matches!(three.ask("SET x 1"), Reply::Error(_)));
     set(&stores.each_ref(), 60..70);
 }
@@ -135,8 +135,8 @@ fn two_replicas_were_thrown_out() {
     wait("the loss", || ["peer_1", "peer_2"].iter().all(|peer| zero.info(peer) == "lost"));
     assert!(matches!(zero.ask("SET x 1"), Reply::Error(_)));
     // (a store that runs keeps its folder)
-    let (status, told) = recover(&places, &["--write"], &[0, 1, 2]);
-    assert!(status == 1 && told.contains("is in use"), "{status} {told}");
+    let (status, printed) = recover(&places, &["--write"], &[0, 1, 2]);
+    assert!(status == 1 && printed.contains("is in use"), "{status} {printed}");
     assert_eq!(zero.end("TERM"), Some(0));
     let parts = ["has a majority here: everything that was acknowledged up to its end is kept", "and 40 keys"];
     recovered(&places, &["--write"], &[0, 1, 2], &parts);
@@ -150,7 +150,7 @@ fn what_may_be_lost_is_accepted_first() {
     let places = Places::new("lost");
     let start = |replica: usize| {
         let store = places.launch(&mut places.command_of(replica, 5), replica);
-        store.tells(SERVES);
+        store.await_logged(SERVES);
         store
     };
     let stores = [0, 1, 2, 3, 4].map(start);
@@ -166,12 +166,12 @@ fn what_may_be_lost_is_accepted_first() {
     set(&stores.each_ref(), 30..40);
     // One of the three that comes back isn't let in; a new machine is.
     let one = places.launch(&mut places.command_of(1, 5), 1);
-    one.tells("must not come back");
+    one.await_logged("must not come back");
     assert!(matches!(one.ask("SET x 1"), Reply::Error(_)));
     drop(one);
     let (new, named) = join(&places, (1, 3), 5);
     operate(&stores[0], &format!("EPAXOS REPLACE {named}"));
-    new.tells(SERVES);
+    new.await_logged(SERVES);
     has_all(&new, 0..40);
 }
 

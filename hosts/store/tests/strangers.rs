@@ -1,11 +1,11 @@
-//! Whoever connects to the peers' port and is no peer is told of, each kind for itself.
+//! Whoever connects to the peers' port and is no peer is reported, each kind for itself.
 mod common;
 use common::{Places, wait};
 use std::fs;
 use std::io::{self, Read, Write};
 use std::net::TcpStream;
 use std::os::unix::fs::PermissionsExt;
-use store::sealed::{Hello, Key, MAGIC, call};
+use store::peer::sealed::{Hello, Key, MAGIC, call};
 
 /// What is written, where nothing is answered.
 struct Caught(Vec<u8>);
@@ -41,7 +41,7 @@ fn a_scanner_does_not_hide_another_key() {
     let scanned = "WARN store 0: a connection from 127.0.0.1:";
     scan();
     wait("the first line", || {
-        store.told().contains("to the peers' port is not from a replica that has this one as its peer")
+        store.logged().contains("to the peers' port is not from a replica that has this one as its peer")
     });
     (0..20).for_each(|_| scan());
     // Replica 1 begins as it should, and what it then says isn't made by this key.
@@ -51,6 +51,6 @@ fn a_scanner_does_not_hide_another_key() {
     other.write_all(&hello.0).unwrap();
     other.read_exact(&mut [0; 16]).unwrap();
     other.write_all(&[0xff; 64]).unwrap();
-    store.tells("to the peers' port has another key than this one (--peer-key)");
-    assert_eq!(store.told().matches(scanned).count(), 2, "{}", store.told());
+    store.await_logged("to the peers' port has another key than this one (--peer-key)");
+    assert_eq!(store.logged().matches(scanned).count(), 2, "{}", store.logged());
 }

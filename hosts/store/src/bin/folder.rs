@@ -1,4 +1,4 @@
-//! A start of a host, by the words of `epaxos node --dir`, which .ci/folders.py compares it with: it tells in which
+//! A start of a host, by the words of `epaxos node --dir`, which .ci/folders.py compares it with: it prints in which
 //! generation the replica is then, or why there is none. What a generation opens with is written before it ends, as a
 //! node writes it at once.
 use epaxos::Cluster;
@@ -24,7 +24,7 @@ enum Fault {
 
 impl Fault {
     /// Its line, and the status that it ends with.
-    fn told(&self) -> (String, u8) {
+    fn line_and_status(&self) -> (String, u8) {
         match self {
             Fault::Start(fault @ StartFault::Folder(folder)) => {
                 (fault.to_string(), if folder.is_lasting() { 2 } else { 4 })
@@ -46,7 +46,7 @@ fn main() -> ExitCode {
             ExitCode::SUCCESS
         }
         Err(fault) => {
-            let (line, status) = fault.told();
+            let (line, status) = fault.line_and_status();
             eprintln!("{line}");
             ExitCode::from(status)
         }

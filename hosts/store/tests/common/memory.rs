@@ -6,17 +6,17 @@ use std::sync::atomic::{AtomicU64, Ordering};
 use std::sync::mpsc::{Receiver, sync_channel};
 use std::thread;
 use std::time::{Duration, Instant};
-use store::ask::{Ask, What};
-use store::client::Client;
-use store::clients::{Shared, listen};
-use store::event::Event;
-use store::keys::Keys;
-use store::listing::Listing;
+use store::client::clients::{Shared, listen};
+use store::client::memory::Memory as Bytes;
+use store::core::ask::{Ask, What};
+use store::core::event::Event;
+use store::core::keys::Keys;
+use store::core::listing::Listing;
+use store::core::outcome::Outcome;
+use store::core::stored::deadline_in;
 use store::map::{Map, execute};
-use store::memory::Memory as Bytes;
-use store::metrics::Metrics;
-use store::stored::deadline_in;
-use store::told::Told;
+use store::ops::metrics::Metrics;
+use testing::client::Client;
 
 const PATIENCE: Duration = Duration::from_secs(60);
 
@@ -88,22 +88,22 @@ fn drive(asked: &Receiver<Event>, takes: Duration) {
             let Event::Ask(Ask { what, reply }) = event else { continue };
             let is_given_up = matches!(what, What::Propose(_)) && !reply.begun().begin();
             reply.send(match what {
-                _ if is_given_up => Told::Late,
+                _ if is_given_up => Outcome::Late,
                 What::Propose(command) => {
                     EXECUTED.fetch_add(1, Ordering::Relaxed);
-                    Told::Done(execute(&mut map, &command))
+                    Outcome::Done(execute(&mut map, &command))
                 }
-                What::Get(key) | What::Read(key) => Told::Value(map.get(&key).cloned()),
+                What::Get(key) | What::Read(key) => Outcome::Value(map.get(&key).cloned()),
                 What::Contents => {
                     let mut pairs: Vec<_> = map.iter().map(|(key, value)| (key.clone(), value.clone())).collect();
                     pairs.sort();
-                    Told::Contents(pairs)
+                    Outcome::Contents(pairs)
                 }
                 What::Over(now) => {
                     let is_over = |it: &(&Vec<u8>, &Vec<u8>)| deadline_in(it.1).is_some_and(|deadline| deadline <= now);
-                    Told::Over(map.iter().filter(is_over).map(|(key, _)| key.clone()).collect())
+                    Outcome::Over(map.iter().filter(is_over).map(|(key, _)| key.clone()).collect())
                 }
-                _ => Told::Info(format!("replica:0\r\nkeys_kept:{}\r\n", map.len())),
+                _ => Outcome::Info(format!("replica:0\r\nkeys_kept:{}\r\n", map.len())),
             });
         }
     }

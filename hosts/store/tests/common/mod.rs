@@ -8,16 +8,16 @@ use std::process::{Child, Command, Stdio};
 use std::sync::{Mutex, MutexGuard};
 use std::thread;
 use std::time::{Duration, Instant};
-use store::admin;
-use store::client::{Client, Reply};
-use store::ports::Ports;
+use store::ops::admin;
+use testing::client::{Client, Reply};
+use testing::ports::Ports;
 
 /// How long a test waits, and a store has a client wait: other work may leave them little of the processors.
 const PATIENCE: Duration = Duration::from_secs(300);
 /// How long a store is started again that finds a port taken.
 const PORT_PATIENCE: Duration = Duration::from_secs(60);
 const STORE_PATIENCE: &str = "60";
-/// What a store tells once it takes clients.
+/// What a store logs once it takes clients.
 pub const SERVES: &str = ", clients at ";
 
 /// The proved program, which .ci/store.py names, and by which logs are judged.
@@ -83,26 +83,27 @@ impl Places {
     /// The same, with more words.
     pub fn start_with(&self, replica: usize, words: &[&str]) -> Store {
         let store = self.launch(self.command(replica).args(words), replica);
-        store.tells(SERVES);
+        store.await_logged(SERVES);
         store
     }
 
-    /// Starts a replica by these words, and waits for the first that it tells, or for its end. Where it finds a port taken it is started again: a process
-    /// that was killed just now may have had a child that hasn't run its program yet.
+    /// Starts a replica by these words, and waits for the first that it logs, or for its end. Where it finds a port
+    /// taken it is started again: a process that was killed just now may have had a child that hasn't run its program
+    /// yet.
     pub fn launch(&self, command: &mut Command, replica: usize) -> Store {
-        let told = self.folder.join(format!("told-{replica}"));
+        let log_path = self.folder.join(format!("told-{replica}"));
         let start = Instant::now();
         loop {
-            let errors = fs::File::create(&told).unwrap();
+            let errors = fs::File::create(&log_path).unwrap();
             let child = Mutex::new(command.stdin(Stdio::null()).stderr(errors).spawn().unwrap());
             let admin = self.directory(replica).join(admin::NAME);
-            let store = Store { child, told: told.clone(), port: self.port(replica), admin };
-            wait("its first word", || !store.told().is_empty() || store.has_ended());
-            let is_taken = store.told().contains("can't listen at 127.0.0.1:");
+            let store = Store { child, log_path: log_path.clone(), port: self.port(replica), admin };
+            wait("its first word", || !store.logged().is_empty() || store.has_ended());
+            let is_taken = store.logged().contains("can't listen at 127.0.0.1:");
             if !is_taken {
                 return store;
             }
-            assert!(start.elapsed() < PORT_PATIENCE, "a port is taken: {}", store.told());
+            assert!(start.elapsed() < PORT_PATIENCE, "a port is taken: {}", store.logged());
         }
     }
 
@@ -121,7 +122,7 @@ impl Drop for Places {
 /// A running store. It is killed when it is let go.
 pub struct Store {
     child: Mutex<Child>,
-    told: PathBuf,
+    log_path: PathBuf,
     port: u16,
     admin: PathBuf,
 }
@@ -140,7 +141,7 @@ impl Store {
             if let Some(status) = self.child().try_wait().unwrap() {
                 return status.code();
             }
-            assert!(start.elapsed() < PATIENCE, "its end is waited for too long; it has told: {}", self.told());
+            assert!(start.elapsed() < PATIENCE, "its end is waited for too long; it has logged: {}", self.logged());
             thread::sleep(Duration::from_millis(10));
         }
     }
@@ -153,13 +154,13 @@ impl Store {
         self.child().try_wait().unwrap().is_some()
     }
 
-    /// Waits until it has told this. Of one that has ended nothing more comes.
-    pub fn tells(&self, words: &str) {
+    /// Waits until it has logged this. Of one that has ended nothing more comes.
+    pub fn await_logged(&self, words: &str) {
         wait(words, || {
             let has_ended = self.has_ended();
-            let told = self.told();
-            assert!(!has_ended || told.contains(words), "the store has ended: {told}");
-            told.contains(words)
+            let logged = self.logged();
+            assert!(!has_ended || logged.contains(words), "the store has ended: {logged}");
+            logged.contains(words)
         });
     }
 
@@ -169,9 +170,9 @@ impl Store {
         assert!(Command::new("kill").args(["-s", signal, &process]).status().unwrap().success());
     }
 
-    /// What it has told on standard error.
-    pub fn told(&self) -> String {
-        fs::read_to_string(&self.told).unwrap()
+    /// What it has logged, to standard error.
+    pub fn logged(&self) -> String {
+        fs::read_to_string(&self.log_path).unwrap()
     }
 
     pub fn client(&self) -> Client {
@@ -193,7 +194,7 @@ impl Store {
         ask(&mut self.operator(), line)
     }
 
-    /// A line of INFO, as the core tells it.
+    /// A line of INFO, as the core reports it.
     pub fn info(&self, name: &str) -> String {
         let text = info(&mut self.client());
         let line = text.lines().find_map(|line| line.strip_prefix(name)?.strip_prefix(':'));
@@ -221,7 +222,7 @@ pub fn ask(client: &mut Client, line: &str) -> Reply {
     client.ask(&words).unwrap()
 }
 
-/// What INFO tells, once the core is quick enough to tell it: other work may leave it little of the processors.
+/// What INFO says, once the core is quick enough to report it: other work may leave it little of the processors.
 pub fn info(client: &mut Client) -> String {
     let start = Instant::now();
     loop {

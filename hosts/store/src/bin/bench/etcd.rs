@@ -231,27 +231,27 @@ impl SplitOff for Vec<u8> {
 
 impl Connection for Caller {
     fn set(&mut self, key: &[u8], value: &[u8]) -> Result<(), String> {
-        let told = |error| format!("etcd answers a put by {error}");
-        self.call("/etcdserverpb.KV/Put", &put_message(key, value)).map(|_| ()).map_err(told)
+        let fault = |error| format!("etcd answers a put by {error}");
+        self.call("/etcdserverpb.KV/Put", &put_message(key, value)).map(|_| ()).map_err(fault)
     }
 
     fn set_together(&mut self, keys: &[String], value: &[u8]) -> Result<(), String> {
-        let told = |error| format!("etcd answers a transaction by {error}");
-        let answer = self.call("/etcdserverpb.KV/Txn", &txn_message(keys, value)).map_err(told)?;
+        let fault = |error| format!("etcd answers a transaction by {error}");
+        let answer = self.call("/etcdserverpb.KV/Txn", &txn_message(keys, value)).map_err(fault)?;
         has_succeeded(&answer).then_some(()).ok_or("a transaction's keys were there".into())
     }
 
     fn set_at_once(&mut self, keys: &[String], value: &[u8]) -> Result<(), String> {
         let messages: Vec<Vec<u8>> = keys.iter().map(|key| put_message(key.as_bytes(), value)).collect();
-        let told = |error| format!("etcd answers puts at once by {error}");
-        messages.chunks(MOST_AT_ONCE).try_for_each(|some| self.call_all("/etcdserverpb.KV/Put", some)).map_err(told)
+        let fault = |error| format!("etcd answers puts at once by {error}");
+        messages.chunks(MOST_AT_ONCE).try_for_each(|some| self.call_all("/etcdserverpb.KV/Put", some)).map_err(fault)
     }
 
     fn get(&mut self, key: &[u8]) -> Result<Vec<u8>, String> {
         let mut message = Vec::new();
         put_field(&mut message, 1, key);
-        let told = |error| format!("etcd answers a range by {error}");
-        let answer = self.call("/etcdserverpb.KV/Range", &message).map_err(told)?;
+        let fault = |error| format!("etcd answers a range by {error}");
+        let answer = self.call("/etcdserverpb.KV/Range", &message).map_err(fault)?;
         value_in(&answer).ok_or("etcd answers a range without a value".into())
     }
 }
@@ -316,7 +316,7 @@ mod tests {
     }
 
     #[test]
-    fn a_transaction_is_told() {
+    fn a_transaction_is_encoded() {
         // header: {revision 300}, succeeded, a response to a put
         assert!(has_succeeded(&[0x0a, 3, 0x18, 0xac, 2, 0x10, 1, 0x1a, 2, 0x12, 0]));
         assert!(!has_succeeded(&[0x0a, 3, 0x18, 0xac, 2, 0x1a, 2, 0x12, 0]));

@@ -12,7 +12,7 @@ use options::{HELP, Options, read};
 use std::process::ExitCode;
 use std::thread;
 use std::time::{Duration, Instant};
-use store::processes::{processor_time, threads_time, written};
+use testing::processes::{processor_time, threads_time, written};
 
 /// How many members each cluster has.
 const MEMBERS: usize = 3;
@@ -39,7 +39,8 @@ pub trait Connection {
     fn set_together(&mut self, keys: &[String], value: &[u8]) -> Result<(), String>;
     /// Sends sets of these keys at once, and waits for all replies.
     fn set_at_once(&mut self, keys: &[String], value: &[u8]) -> Result<(), String>;
-    /// How many commands of the protocol its member has proposed, and how many syncs it has made, where it tells that.
+    /// How many commands of the protocol its member has proposed, and how many syncs it has made, where it reports
+    /// that.
     fn counts(&mut self) -> Option<[u64; 2]> {
         None
     }
@@ -108,7 +109,7 @@ fn play(options: &Options, clients: usize) -> Result<(), String> {
         }
         let first = measured[0].rates.clone();
         for (cluster, it) in clusters.iter().zip(&mut measured) {
-            println!("| {clients} | {work} | {} | {} |", cluster.name(), it.told(&first));
+            println!("| {clients} | {work} | {} | {} |", cluster.name(), it.figures(&first));
         }
     }
     drop(clusters);
@@ -145,7 +146,7 @@ fn bytes_written(cluster: &dyn Cluster) -> u64 {
     cluster.processes().into_iter().map(written).sum()
 }
 
-/// What all members count, where they tell it.
+/// What all members count, where they report it.
 fn counts(cluster: &dyn Cluster) -> Result<Option<[u64; 2]>, String> {
     let mut all = [0; 2];
     for member in 0..MEMBERS {

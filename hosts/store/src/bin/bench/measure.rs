@@ -87,7 +87,7 @@ pub struct Measured {
     pub threads: Duration,
     /// How many bytes they had written to the disk.
     pub written: u64,
-    /// How many commands of the protocol they have proposed, and how many syncs they have made, where they tell that.
+    /// How many commands of the protocol they have proposed, and how many syncs they have made, where they report that.
     counts: [u64; 2],
     /// Commands a second in each turn, and the machine's load before it.
     pub rates: Vec<f64>,
@@ -110,7 +110,7 @@ impl Measured {
 
     /// A row's figures: waits, the rate, this in ratio to the first cluster's in the same turns, and the processor time
     /// and the bytes written for a command, instances and syncs, and the load.
-    pub fn told(&mut self, first: &[f64]) -> String {
+    pub fn figures(&mut self, first: &[f64]) -> String {
         self.waits.sort_unstable();
         let part = |share: usize| self.waits[(self.waits.len() - 1) * share / 100].as_secs_f64() * 1e3;
         let [processor, threads] =
@@ -260,8 +260,8 @@ mod tests {
         let mut measured = Measured::default();
         // 1,000, 500 and 250 commands a second, where the first cluster did 500 each time
         [1, 2, 4].into_iter().for_each(|millis| measured.add(turn(millis), 3.0));
-        let told = measured.told(&[500.0, 500.0, 500.0]);
-        assert!(told.contains("| 500 (250 to 1000) | 1.00 (0.50 to 2.00) |"), "{told}");
-        assert!(told.ends_with("| 3 (3 to 3)"), "{told}");
+        let figures = measured.figures(&[500.0, 500.0, 500.0]);
+        assert!(figures.contains("| 500 (250 to 1000) | 1.00 (0.50 to 2.00) |"), "{figures}");
+        assert!(figures.ends_with("| 3 (3 to 3)"), "{figures}");
     }
 }

@@ -4,7 +4,7 @@ use crate::options::Options;
 use crate::running::Running;
 use std::path::Path;
 use std::process::Command;
-use store::client::Client;
+use testing::client::Client;
 
 /// A running Redis.
 pub fn start(options: &Options, directory: &Path) -> Result<Running<Client>, String> {

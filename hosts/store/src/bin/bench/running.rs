@@ -4,7 +4,7 @@ use std::fs::File;
 use std::io;
 use std::path::Path;
 use std::process::{Child, Command, Stdio};
-use store::ports::Ports;
+use testing::ports::Ports;
 
 /// Programs that run beside one another. They end when this is dropped.
 pub struct Running<C> {
@@ -22,14 +22,14 @@ impl<C> Running<C> {
         Ok(Running { name, ports, children: Vec::new(), connect })
     }
 
-    /// Starts one more; what it tells goes to a file in its folder.
+    /// Starts one more; what it prints goes to a file in its folder.
     pub fn start(&mut self, command: &mut Command, folder: &Path) -> Result<(), String> {
         let program = command.get_program().display().to_string();
-        let told = |error: io::Error| format!("{program} can't be run: {error}");
-        std::fs::create_dir_all(folder).map_err(told)?;
-        let file = File::create(folder.join("told")).map_err(told)?;
-        let command = command.stdin(Stdio::null()).stdout(file.try_clone().map_err(told)?).stderr(file);
-        self.children.push(command.spawn().map_err(told)?);
+        let fault = |error: io::Error| format!("{program} can't be run: {error}");
+        std::fs::create_dir_all(folder).map_err(fault)?;
+        let file = File::create(folder.join("told")).map_err(fault)?;
+        let command = command.stdin(Stdio::null()).stdout(file.try_clone().map_err(fault)?).stderr(file);
+        self.children.push(command.spawn().map_err(fault)?);
         Ok(())
     }
 }

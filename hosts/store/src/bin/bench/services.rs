@@ -5,7 +5,7 @@ use epaxos::host::Settings;
 use epaxos::service::{Folder, Service, Start, TcpLink};
 use std::path::Path;
 use std::sync::Arc;
-use store::ports::Ports;
+use testing::ports::Ports;
 
 /// A running cluster.
 pub struct Services {

@@ -4,7 +4,7 @@ use crate::running::Running;
 use crate::{Connection, MEMBERS, PATIENCE};
 use std::path::Path;
 use std::process::Command;
-use store::client::{Client, Reply};
+use testing::client::{Client, Reply};
 
 /// A running cluster.
 pub fn start(

@@ -1,23 +1,23 @@
 //! A bank: money goes from account to account while replicas are killed, stopped and cut off. No sum changes, and each
-//! transfer that was told is done once.
+//! transfer that was answered is done once.
 //!
 //! Each client counts its transfers in a key of its own, which each of them raises: so one whose reply was lost is
-//! known to be done or not once the next one is told.
+//! known to be done or not once the next one is answered.
 use crate::cluster::Cluster;
 use crate::options::Options;
 use crate::troubles;
 use std::sync::atomic::{AtomicBool, Ordering};
 use std::thread;
 use std::time::{Duration, Instant};
-use store::client::{Client, Refusal, Reply};
 use store::random::Random;
+use testing::client::{Client, Refusal, Reply};
 
-/// With a client's own counter these are as many keys as one command tells of.
+/// With a client's own counter these are as many keys as one command reports.
 const ACCOUNTS: u64 = 15;
 const BEGINNING: i64 = 1_000;
 /// Longer than a store's patience.
 const PATIENCE: Duration = Duration::from_secs(15);
-/// In the end a replica that tells nothing for so long is at fault.
+/// In the end a replica that answers nothing for so long is at fault.
 const AT_THE_END: Duration = Duration::from_secs(180);
 
 /// What came of the clients of a bank.
@@ -34,7 +34,7 @@ struct Books {
     counts: Vec<(String, i64, i64)>,
 }
 
-/// What a client asked for was not told.
+/// What a client asked for was not answered.
 enum Stop {
     Undone,
     Doubtful,
@@ -81,13 +81,13 @@ fn stop(reply: &Reply) -> Option<Stop> {
 impl Teller<'_> {
     fn run(mut self, is_over: &AtomicBool) -> Books {
         while !is_over.load(Ordering::Relaxed) {
-            let told = match self.random.below(5) {
+            let result = match self.random.below(5) {
                 0 | 1 => self.read(),
                 2 => self.transfer_by_txn(),
                 3 => self.transfer_by_exec(),
                 _ => self.transfer_by_watch(),
             };
-            match told {
+            match result {
                 Ok(()) => {}
                 Err(Stop::Undone) => self.books.undone += 1,
                 Err(Stop::Doubtful) => self.connection = None,
@@ -129,36 +129,36 @@ impl Teller<'_> {
         }
     }
 
-    /// A transfer, which may be done where nothing is told of it.
+    /// A transfer, which may be done where there is no reply.
     fn transfer(&mut self, lines: &[String]) -> Result<Reply, Stop> {
-        let told = self.ask(lines);
-        if let Err(Stop::Doubtful) = told {
+        let reply = self.ask(lines);
+        if let Err(Stop::Doubtful) = reply {
             self.open += 1;
             self.books.doubtful += 1;
         }
-        told
+        reply
     }
 
-    /// So many of its transfers are done, as it was told. Those that may have been done and weren't never are.
-    fn count(&mut self, told: i64) -> Result<(), Stop> {
+    /// So many of its transfers are done, as the reply says. Those that may have been done and weren't never are.
+    fn count(&mut self, reported: i64) -> Result<(), Stop> {
         let (least, most) = (self.done, self.done + self.open);
-        if !(least..=most).contains(&told) {
-            return Err(Stop::Fault(format!("{} has {told} transfers, and not {least} to {most}", self.counter)));
+        if !(least..=most).contains(&reported) {
+            return Err(Stop::Fault(format!("{} has {reported} transfers, and not {least} to {most}", self.counter)));
         }
-        if told > least {
-            (self.done, self.open) = (told, 0);
+        if reported > least {
+            (self.done, self.open) = (reported, 0);
         }
         Ok(())
     }
 
-    /// One more is done than was told last.
-    fn one_more(&mut self, told: i64) -> Result<(), Stop> {
+    /// One more is done than the last reply said.
+    fn one_more(&mut self, reported: i64) -> Result<(), Stop> {
         self.books.transfers += 1;
         self.open += 1;
-        if told == self.done {
-            return Err(Stop::Fault(format!("{} has {told} transfers, as before one more", self.counter)));
+        if reported == self.done {
+            return Err(Stop::Fault(format!("{} has {reported} transfers, as before one more", self.counter)));
         }
-        self.count(told)
+        self.count(reported)
     }
 
     /// Two accounts.
@@ -173,9 +173,9 @@ impl Teller<'_> {
         let names: Vec<String> = (0..ACCOUNTS).map(account).chain([self.counter.clone()]).collect();
         let values = if self.random.below(2) == 0 {
             let line = names.iter().fold("EPAXOS TXN".to_string(), |line, name| format!("{line} GET {name}"));
-            let Reply::Array(told) = self.ask(&[line])? else { return Err(Stop::Fault("no array".into())) };
-            let [Reply::Integer(1), Reply::Array(values)] = told.as_slice() else {
-                return Err(Stop::Fault(format!("an answer that doesn't fit: {told:?}")));
+            let Reply::Array(parts) = self.ask(&[line])? else { return Err(Stop::Fault("no array".into())) };
+            let [Reply::Integer(1), Reply::Array(values)] = parts.as_slice() else {
+                return Err(Stop::Fault(format!("an answer that doesn't fit: {parts:?}")));
             };
             values.clone()
         } else {
@@ -197,9 +197,9 @@ impl Teller<'_> {
     /// By a comparison of what both accounts had when they were read.
     fn transfer_by_txn(&mut self) -> Result<(), Stop> {
         let ((from, to), counter) = (self.two(), self.counter.clone());
-        let mut told = self.ask(&[format!("MGET {from} {to} {counter}")])?;
+        let mut reply = self.ask(&[format!("MGET {from} {to} {counter}")])?;
         for _ in 0..5 {
-            let Reply::Array(values) = &told else { return Err(Stop::Fault(format!("no array: {told:?}"))) };
+            let Reply::Array(values) = &reply else { return Err(Stop::Fault(format!("no array: {reply:?}"))) };
             let values = values.iter().map(number).collect::<Result<Vec<_>, _>>()?;
             let [has, other, count] = values[..] else { return Err(Stop::Fault(format!("{values:?}"))) };
             self.count(count)?;
@@ -214,7 +214,7 @@ impl Teller<'_> {
             match self.transfer(&[line])? {
                 Reply::Array(parts) => match parts.as_slice() {
                     [Reply::Integer(1), Reply::Array(_)] => return self.one_more(count + 1),
-                    [Reply::Integer(0), now] => told = now.clone(),
+                    [Reply::Integer(0), now] => reply = now.clone(),
                     _ => return Err(Stop::Fault(format!("an answer that doesn't fit: {parts:?}"))),
                 },
                 other => return Err(Stop::Fault(format!("an answer that doesn't fit: {other:?}"))),
@@ -233,15 +233,15 @@ impl Teller<'_> {
             format!("INCR {}", self.counter),
             "EXEC".into(),
         ];
-        let told = self.transfer(&lines)?;
-        self.executed(&told)
+        let reply = self.transfer(&lines)?;
+        self.executed(&reply)
     }
 
     fn transfer_by_watch(&mut self) -> Result<(), Stop> {
         let ((from, to), more) = (self.two(), 1 + self.random.below(9) as i64);
         self.ask(&[format!("WATCH {from} {to}")])?;
-        let told = self.ask(&[format!("MGET {from} {to}")])?;
-        let Reply::Array(values) = &told else { return Err(Stop::Fault(format!("no array: {told:?}"))) };
+        let reply = self.ask(&[format!("MGET {from} {to}")])?;
+        let Reply::Array(values) = &reply else { return Err(Stop::Fault(format!("no array: {reply:?}"))) };
         let values = values.iter().map(number).collect::<Result<Vec<_>, _>>()?;
         let lines = [
             "MULTI".into(),
@@ -252,13 +252,13 @@ impl Teller<'_> {
         ];
         match self.transfer(&lines)? {
             Reply::Bulk(None) => Err(Stop::Undone),
-            told => self.executed(&told),
+            reply => self.executed(&reply),
         }
     }
 
-    /// What EXEC told, whose last command was that on the client's counter.
-    fn executed(&mut self, told: &Reply) -> Result<(), Stop> {
-        match told {
+    /// The reply to EXEC, whose last command was that on the client's counter.
+    fn executed(&mut self, reply: &Reply) -> Result<(), Stop> {
+        match reply {
             Reply::Array(replies) if replies.len() == 3 => {
                 let count = number(&replies[2])?;
                 self.one_more(count)
@@ -272,9 +272,9 @@ impl Teller<'_> {
 fn patiently(cluster: &Cluster, replica: usize, line: &str) -> Result<Reply, String> {
     let start = Instant::now();
     while start.elapsed() < AT_THE_END {
-        let told = Client::connect(cluster.client_ports[replica], PATIENCE)
+        let result = Client::connect(cluster.client_ports[replica], PATIENCE)
             .and_then(|mut client| client.ask(&line.split(' ').map(str::as_bytes).collect::<Vec<_>>()));
-        match told {
+        match result {
             Ok(Reply::Error(_)) | Err(_) => thread::sleep(Duration::from_millis(100)),
             Ok(reply) => return Ok(reply),
         }
@@ -345,12 +345,12 @@ pub fn run(options: &Options, cluster: &Cluster, seed: u64) -> Result<Vec<String
     Ok(faults)
 }
 
-/// What a replica tells in the end.
+/// What a replica answers in the end.
 fn closing(cluster: &Cluster, replica: usize, counts: &[(String, i64, i64)]) -> Result<Vec<String>, String> {
     let mut faults = Vec::new();
     let line = (0..ACCOUNTS).fold("EPAXOS TXN".to_string(), |line, it| format!("{line} GET {}", account(it)));
-    let told = patiently(cluster, replica, &line)?;
-    let sum = match &told {
+    let reply = patiently(cluster, replica, &line)?;
+    let sum = match &reply {
         Reply::Array(parts) => match parts.as_slice() {
             [_, Reply::Array(values)] => values.iter().map(|it| number(it).unwrap_or(0)).sum(),
             _ => 0,
@@ -358,13 +358,13 @@ fn closing(cluster: &Cluster, replica: usize, counts: &[(String, i64, i64)]) -> 
         _ => 0,
     };
     if sum != ACCOUNTS as i64 * BEGINNING {
-        faults.push(format!("in the end all accounts have {sum} at replica {replica}: {told:?}"));
+        faults.push(format!("in the end all accounts have {sum} at replica {replica}: {reply:?}"));
     }
     for (counter, done, open) in counts {
-        let told = patiently(cluster, replica, &format!("GET {counter}"))?;
-        match number(&told) {
-            Ok(told) if (*done..=done + open).contains(&told) => {}
-            _ => faults.push(format!("in the end {counter} has {told:?}, and not {done} to {}", done + open)),
+        let reply = patiently(cluster, replica, &format!("GET {counter}"))?;
+        match number(&reply) {
+            Ok(count) if (*done..=done + open).contains(&count) => {}
+            _ => faults.push(format!("in the end {counter} has {reply:?}, and not {done} to {}", done + open)),
         }
     }
     Ok(faults)

@@ -1,4 +1,5 @@
 //! The stores of a round: starting, killing, stopping them.
+use crate::chain::{Chain, newest_with};
 use crate::links::Link;
 use crate::options::{Options, Plant};
 use std::fs::{self, File, OpenOptions};
@@ -10,11 +11,10 @@ use std::sync::atomic::{AtomicBool, Ordering};
 use std::sync::{Arc, Mutex};
 use std::thread;
 use std::time::{Duration, Instant};
-use store::admin;
-use store::chain::{Chain, newest_with};
-use store::client::{Client, Reply};
-use store::ports::Ports;
-use store::processes;
+use store::ops::admin;
+use testing::client::{Client, Reply};
+use testing::ports::Ports;
+use testing::processes;
 
 /// A log's header, and what stands around the bytes of an entry: two lengths, what was on the disk, and a checksum.
 const LOG_HEADER: usize = 43;
@@ -24,15 +24,15 @@ const LAST_RECORDS: usize = 4;
 
 /// What stands in each seal, and in nothing else.
 const SEAL: &[u8] = b"members 1\n";
-/// How many generations that were left a store keeps where it isn't told otherwise.
+/// How many generations that were left a store keeps where no option says otherwise.
 const KEPT: u32 = 2;
-/// What a store tells that comes in the place of a lost machine.
+/// What a store logs that comes in the place of a lost machine.
 const COMES_IN: &str = "names this machine";
 /// So many machines may come for a while.
 const MORE: usize = 2;
 /// For so long others are asked to let it in, or for another size, or for more generations.
 const ASKING: Duration = Duration::from_secs(300);
-/// A process that was told to end, or killed, has ended by then: the machine may be busy.
+/// A process that was asked to end, or killed, has ended by then: the machine may be busy.
 const ENDING: Duration = Duration::from_secs(60);
 /// And whatever else is waited for has come.
 const PATIENCE: Duration = Duration::from_secs(120);
@@ -136,7 +136,7 @@ impl Cluster {
         folder.join(format!("generations/{generation}/log"))
     }
 
-    fn told(&self, replica: usize) -> PathBuf {
+    fn errors_file(&self, replica: usize) -> PathBuf {
         self.directory.join(format!("told-{replica}"))
     }
 
@@ -152,7 +152,7 @@ impl Cluster {
 
     /// Starts a replica.
     pub fn launch(&self, replica: usize) -> io::Result<()> {
-        let told = OpenOptions::new().append(true).create(true).open(self.told(replica))?;
+        let errors = OpenOptions::new().append(true).create(true).open(self.errors_file(replica))?;
         let mut command = Command::new(&self.options.store);
         command.args(["--replica", &replica.to_string(), "--peers", &self.peers(replica)]);
         command.args(["--listen", &self.client_ports[replica].to_string(), "--patience", "10"]);
@@ -183,7 +183,7 @@ impl Cluster {
         match self.options.plant {
             Some(Plant::Early) => _ = command.args(["--plant", "early"]),
             Some(Plant::Changed) => _ = command.args(["--plant", "changed"]),
-            // A store that isn't told to wouldn't start over a log that lacks what clients were told.
+            // A store without this wouldn't start over a log that lacks what clients were answered.
             Some(Plant::Again) => _ = command.args(["--plant", "again"]),
             Some(Plant::Lacking) => _ = command.args(["--plant", "lacking"]),
             Some(Plant::Fewer) => _ = command.args(["--plant", "fewer"]),
@@ -196,7 +196,7 @@ impl Cluster {
             }
             None => {}
         }
-        let child = command.stdin(Stdio::null()).stderr(told).process_group(0).spawn()?;
+        let child = command.stdin(Stdio::null()).stderr(errors).process_group(0).spawn()?;
         *self.running[replica].lock().unwrap() = Some(child);
         Ok(())
     }
@@ -216,16 +216,16 @@ impl Cluster {
 
     /// Loses a machine for good, and has another one come in its place, with an empty folder.
     pub fn replace(&self, replica: usize) -> Result<(), String> {
-        let told = |error: io::Error| format!("a machine can't be replaced: {error}");
+        let fault = |error: io::Error| format!("a machine can't be replaced: {error}");
         self.kill(replica)?;
         let folder = self.folder(replica);
         let lost = self.directory.join(format!("{replica}-lost-{}", self.lost.lock().unwrap().len()));
         wait_for(|| is_free(&folder).then_some(())).ok_or(format!("the store of replica {replica} doesn't end"))?;
-        fs::rename(&folder, &lost).map_err(told)?;
+        fs::rename(&folder, &lost).map_err(fault)?;
         self.lost.lock().unwrap().push((replica, lost));
         self.joined[replica].store(true, Ordering::SeqCst);
-        let before = fs::read_to_string(self.told(replica)).map_err(told)?.len();
-        self.launch(replica).map_err(told)?;
+        let before = fs::read_to_string(self.errors_file(replica)).map_err(fault)?.len();
+        self.launch(replica).map_err(fault)?;
         let said = || self.said(replica, before);
         let identity = self.identity(replica, before)?;
         let others: Vec<usize> = (0..self.replicas).filter(|other| *other != replica).collect();
@@ -236,7 +236,7 @@ impl Cluster {
             let operator = self.operator(others[count % others.len()], Duration::from_secs(5));
             let answer = operator.and_then(|mut client| client.ask(&words));
             if matches!(answer, Ok(Reply::Bulk(_) | Reply::Simple(_)))
-                || said().is_some_and(|told| told.contains(COMES_IN))
+                || said().is_some_and(|text| text.contains(COMES_IN))
             {
                 break;
             }
@@ -264,9 +264,9 @@ impl Cluster {
         if copied.success() { Ok(()) } else { Err(format!("{} can't be copied", from.display())) }
     }
 
-    /// What a store has told behind so many bytes.
+    /// What a store has logged behind so many bytes.
     fn said(&self, replica: usize, before: usize) -> Option<String> {
-        Some(fs::read_to_string(self.told(replica)).ok()?.get(before..)?.to_string())
+        Some(fs::read_to_string(self.errors_file(replica)).ok()?.get(before..)?.to_string())
     }
 
     /// Who a machine is that waits to be let in.
@@ -278,16 +278,16 @@ impl Cluster {
 
     /// Two more machines take part for a while, and none of them any more then.
     pub fn resize(&self, wait: Duration) -> Result<(), String> {
-        let told = |error: io::Error| format!("a machine can't be started: {error}");
+        let fault = |error: io::Error| format!("a machine can't be started: {error}");
         let more = self.replicas..self.replicas + MORE;
         let mut words = format!("EPAXOS RESIZE {}", self.replicas + MORE);
         for replica in more.clone() {
             self.joined[replica].store(true, Ordering::SeqCst);
-            self.launch(replica).map_err(told)?;
+            self.launch(replica).map_err(fault)?;
             let (identity, port) = (self.identity(replica, 0)?, self.peer_ports[replica]);
             words += &format!(" {replica} {identity} 127.0.0.1:{port}");
         }
-        let is_in = || more.clone().all(|replica| self.said(replica, 0).is_some_and(|told| told.contains(COMES_IN)));
+        let is_in = || more.clone().all(|replica| self.said(replica, 0).is_some_and(|text| text.contains(COMES_IN)));
         self.ask_until(&words, is_in)?;
         thread::sleep(wait);
         let has_left = || more.clone().all(|replica| !self.is_running(replica));
@@ -514,12 +514,12 @@ fn is_free(folder: &Path) -> bool {
     File::open(folder.join("node-errors")).is_ok_and(|file| file.try_lock().is_ok())
 }
 
-/// What this tells, once it tells something.
-fn wait_for<T>(tell: impl Fn() -> Option<T>) -> Option<T> {
+/// What this finds, once it finds something.
+fn wait_for<T>(find: impl Fn() -> Option<T>) -> Option<T> {
     let start = Instant::now();
     while start.elapsed() < PATIENCE {
-        if let Some(told) = tell() {
-            return Some(told);
+        if let Some(found) = find() {
+            return Some(found);
         }
         thread::sleep(Duration::from_millis(20));
     }

@@ -6,8 +6,8 @@ use std::fmt;
 use std::sync::atomic::{AtomicBool, Ordering};
 use std::thread;
 use std::time::{Duration, Instant};
-use store::client::{Client, Reply};
 use store::random::Random;
+use testing::client::{Client, Reply};
 
 /// Regions of EC2: California, Virginia, Ireland, Oregon, Japan.
 const NAMES: [&str; 5] = ["CA", "VA", "EU", "OR", "JP"];
@@ -148,22 +148,22 @@ impl Cluster {
 
 /// One command: when it was asked since the start of a play, and how long it took. None: it was refused, or nobody knows.
 #[derive(Clone, Copy)]
-struct Told {
+struct Timed {
     at: Duration,
     wait: Option<Duration>,
     is_hot: bool,
     is_read: bool,
 }
 
-/// What a replica tells that it has begun.
+/// What a replica reports that it has begun.
 #[derive(Clone, Copy, PartialEq, Eq)]
 pub struct Begun {
     accepts: u64,
     pub recoveries: u64,
 }
 
-/// What the clients of each site were told.
-type All = Vec<Vec<Told>>;
+/// The commands of the clients of each site.
+type All = Vec<Vec<Timed>>;
 
 /// Plays what the options ask for: the faults that were found.
 pub fn run(options: &Options, cluster: &Cluster) -> Result<Vec<String>, String> {
@@ -192,9 +192,9 @@ fn measure(options: &Options, cluster: &Cluster, share: u64) -> Result<Vec<Strin
     );
     println!("|---|---|---|---|---|---|---|---|---|");
     let mut faults = Vec::new();
-    for (replica, told) in all.iter().enumerate() {
+    for (replica, commands) in all.iter().enumerate() {
         let of = |is_hot: bool, is_read: bool| {
-            waits(told, WARM, options.time, |it| it.is_hot == is_hot && it.is_read == is_read)
+            waits(commands, WARM, options.time, |it| it.is_hot == is_hot && it.is_read == is_read)
         };
         let (expected, cold) = (sites.expected(replica, None), of(false, false));
         let (expected_of_reads, reads) = (sites.expected_of_reads(replica), of(false, true));
@@ -221,14 +221,14 @@ fn measure(options: &Options, cluster: &Cluster, share: u64) -> Result<Vec<Strin
             if options.reads > 0 {
                 faults.extend(too_long(options, replica, &reads, expected_of_reads, "of reads"));
             }
-            faults.extend(refused(sites, replica, told));
+            faults.extend(refused(sites, replica, commands));
             if slow != (Begun { accepts: 0, recoveries: 0 }) {
                 faults.push(format!("{}: not every command has taken the fast path", sites.name(replica)));
             }
         }
     }
     let seconds = options.time.saturating_sub(WARM).as_secs_f64();
-    let count: usize = all.iter().map(|told| waits(told, WARM, options.time, |_| true).len()).sum();
+    let count: usize = all.iter().map(|commands| waits(commands, WARM, options.time, |_| true).len()).sum();
     println!("{:.0} commands a second", count as f64 / seconds);
     Ok(faults)
 }
@@ -260,13 +260,13 @@ fn trouble_at(options: &Options, cluster: &Cluster, trouble: Trouble, at: usize)
     println!("|---|---|---|---|---|---|---|---|");
     let settled = begin + SETTLING;
     let mut faults = Vec::new();
-    for (replica, told) in all.iter().enumerate() {
-        let of = |from, to| waits(told, from, to, |_| true);
+    for (replica, commands) in all.iter().enumerate() {
+        let of = |from, to| waits(commands, from, to, |_| true);
         let (expected, within) = (sites.expected(replica, None), sites.expected(replica, Some((trouble, at))));
         let (before, first, then, last) =
             (of(WARM, begin), of(begin, settled), of(settled, end), of(end + SETTLING, time));
         // (what was under way as it began counts)
-        let longest = waits(told, Duration::ZERO, time, |it| it.wait.is_some_and(|wait| it.at + wait >= begin));
+        let longest = waits(commands, Duration::ZERO, time, |it| it.wait.is_some_and(|wait| it.at + wait >= begin));
         let longest = longest.last().copied().unwrap_or_default();
         let is_out = replica == at && trouble != Trouble::Far;
         println!(
@@ -284,7 +284,7 @@ fn trouble_at(options: &Options, cluster: &Cluster, trouble: Trouble, at: usize)
             continue;
         }
         if trouble == Trouble::Far {
-            faults.extend(refused(sites, replica, told));
+            faults.extend(refused(sites, replica, commands));
         }
         let for_good = if trouble == Trouble::Killed { within } else { expected };
         faults.extend(too_long(options, replica, &then, within, &format!("while {} is {trouble}", sites.name(at))));
@@ -299,8 +299,8 @@ fn trouble_at(options: &Options, cluster: &Cluster, trouble: Trouble, at: usize)
 }
 
 /// A fault, where some commands of a site weren't done.
-fn refused(sites: &Sites, replica: usize, told: &[Told]) -> Option<String> {
-    let count = told.iter().filter(|it| it.wait.is_none()).count();
+fn refused(sites: &Sites, replica: usize, commands: &[Timed]) -> Option<String> {
+    let count = commands.iter().filter(|it| it.wait.is_none()).count();
     (count > 0).then(|| format!("{}: {count} commands were refused", sites.name(replica)))
 }
 
@@ -343,7 +343,7 @@ fn play(
 
 /// A client: asks one command after the other until it is over. So many of 100 are of the one key, and so many only
 /// read.
-fn ask(port: u16, seed: u64, (share, reads): (u64, u64), start: Instant, is_over: &AtomicBool) -> Vec<Told> {
+fn ask(port: u16, seed: u64, (share, reads): (u64, u64), start: Instant, is_over: &AtomicBool) -> Vec<Timed> {
     let (mut random, mut connection, mut all) = (Random::from_seed(seed), None, Vec::new());
     while !is_over.load(Ordering::Relaxed) {
         let (is_hot, is_read) = (random.below(100) < share, random.below(100) < reads);
@@ -363,10 +363,10 @@ fn ask(port: u16, seed: u64, (share, reads): (u64, u64), start: Instant, is_over
             if is_read { &[b"GET", key.as_bytes()] } else { &[b"SET", key.as_bytes(), b"a value of 20 bytes."] };
         match client.ask(words) {
             Ok(Reply::Simple(_) | Reply::Bulk(_)) => {
-                all.push(Told { at, wait: Some(start.elapsed() - at), is_hot, is_read })
+                all.push(Timed { at, wait: Some(start.elapsed() - at), is_hot, is_read })
             }
             _ => {
-                all.push(Told { at, wait: None, is_hot, is_read });
+                all.push(Timed { at, wait: None, is_hot, is_read });
                 connection = None;
                 thread::sleep(Duration::from_millis(50));
             }
@@ -376,8 +376,8 @@ fn ask(port: u16, seed: u64, (share, reads): (u64, u64), start: Instant, is_over
 }
 
 /// The waits of commands that were asked in this time, in rising order.
-fn waits(told: &[Told], from: Duration, to: Duration, wanted: impl Fn(&Told) -> bool) -> Vec<Duration> {
-    let those = told.iter().filter(|it| from <= it.at && it.at < to && wanted(it));
+fn waits(commands: &[Timed], from: Duration, to: Duration, wanted: impl Fn(&Timed) -> bool) -> Vec<Duration> {
+    let those = commands.iter().filter(|it| from <= it.at && it.at < to && wanted(it));
     let mut waits: Vec<Duration> = those.filter_map(|it| it.wait).collect();
     waits.sort_unstable();
     waits
@@ -399,8 +399,8 @@ fn figures(waits: &[Duration]) -> String {
 pub fn begun(cluster: &Cluster) -> Result<Vec<Begun>, String> {
     let of = |replica: usize| {
         let mut client = Client::connect(cluster.client_ports[replica], PATIENCE).map_err(|error| error.to_string())?;
-        let told = client.ask(&[b"INFO"]).map_err(|error| error.to_string())?;
-        let Reply::Bulk(Some(text)) = told else { return Err(format!("no INFO: {told:?}")) };
+        let reply = client.ask(&[b"INFO"]).map_err(|error| error.to_string())?;
+        let Reply::Bulk(Some(text)) = reply else { return Err(format!("no INFO: {reply:?}")) };
         let text = String::from_utf8_lossy(&text).into_owned();
         let number = |name: &str| {
             let line = text.lines().find_map(|line| line.strip_prefix(name)?.strip_prefix(':'));

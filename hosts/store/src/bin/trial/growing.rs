@@ -1,5 +1,5 @@
-//! A play in which the map grows: clients set new keys, and how long they wait is told apart by whether a generation changes meanwhile. In the end
-//! machines may be replaced over long links, which get the whole map.
+//! A play in which the map grows: clients set new keys, and how long they wait is reported apart by whether a
+//! generation changes meanwhile. In the end machines may be replaced over long links, which get the whole map.
 use crate::cluster::Cluster;
 use crate::options::Options;
 use std::fmt::Write as _;
@@ -7,12 +7,13 @@ use std::sync::Mutex;
 use std::sync::atomic::{AtomicBool, AtomicUsize, Ordering};
 use std::thread;
 use std::time::{Duration, Instant};
-use store::client::{Client, Refusal, Reply};
-use store::processes::{processor_time, written};
+use testing::client::{Client, Refusal, Reply};
+use testing::processes::{processor_time, written};
 
 /// How long a value is.
 const LENGTH: usize = 100;
-/// So many commands that were told make a slice, whose rate is told; more, where there would be more slices than so many.
+/// So many commands that were answered make a slice, whose rate is printed; more, where there would be more slices than
+/// so many.
 const SLICE: usize = 2_000;
 const SLICES: usize = 50;
 /// Between two looks at what processor time the stores took.
@@ -28,7 +29,7 @@ const READ: usize = 1_000;
 
 /// A command: when it was asked and answered.
 #[derive(Clone, Copy)]
-struct Told {
+struct Timed {
     from: Duration,
     to: Duration,
 }
@@ -38,7 +39,7 @@ struct Play<'a> {
     cluster: &'a Cluster,
     start: Instant,
     wanted: usize,
-    told: Mutex<Vec<Told>>,
+    commands: Mutex<Vec<Timed>>,
     given: AtomicUsize,
     undone: AtomicUsize,
     doubtful: AtomicUsize,
@@ -53,7 +54,7 @@ pub fn run(cluster: &Cluster, options: &Options) -> Result<Vec<String>, String> 
         cluster,
         start: Instant::now(),
         wanted,
-        told: Mutex::default(),
+        commands: Mutex::default(),
         given: AtomicUsize::new(0),
         undone: AtomicUsize::new(0),
         doubtful: AtomicUsize::new(0),
@@ -73,29 +74,29 @@ pub fn run(cluster: &Cluster, options: &Options) -> Result<Vec<String>, String> 
     });
     let processor = processor_times(cluster) - before;
     let bytes = written_bytes(cluster) - bytes;
-    let mut told = play.told.into_inner().map_err(|_| "a client has failed")?;
-    told.sort_unstable_by_key(|it| it.to);
+    let mut commands = play.commands.into_inner().map_err(|_| "a client has failed")?;
+    commands.sort_unstable_by_key(|it| it.to);
     let (undone, doubtful) = (play.undone.into_inner(), play.doubtful.into_inner());
     println!(
         "{} keys of {LENGTH} bytes set by {clients} clients; {} changes of generation; refused as not done {undone}, in doubt {doubtful}",
-        told.len(),
+        commands.len(),
         changes.len()
     );
     let slice = SLICE.max(wanted.div_ceil(SLICES));
-    println!("commands a second, by slices of {slice}: {}", rates(&told, slice));
-    println!("processor time of all stores by these slices, µs a command: {}", shares(&told, &times, slice));
+    println!("commands a second, by slices of {slice}: {}", rates(&commands, slice));
+    println!("processor time of all stores by these slices, µs a command: {}", shares(&commands, &times, slice));
     println!(
         "stretches without an answer, the longest of all and those at changes, ms: {}",
-        stretches(&told, &changes)
+        stretches(&commands, &changes)
     );
-    let near = |it: &&Told| changes.iter().any(|change| it.from < *change + NEAR && it.to + NEAR > *change);
-    println!("waits within {} ms of a change: {}", NEAR.as_millis(), figures(told.iter().filter(near)));
-    println!("others: {}", figures(told.iter().filter(|it| !near(it))));
-    println!("processor time of all stores: {:.0} µs a command", processor.as_secs_f64() * 1e6 / told.len() as f64);
-    let own = told.len() * (key(0).len() + LENGTH);
+    let near = |it: &&Timed| changes.iter().any(|change| it.from < *change + NEAR && it.to + NEAR > *change);
+    println!("waits within {} ms of a change: {}", NEAR.as_millis(), figures(commands.iter().filter(near)));
+    println!("others: {}", figures(commands.iter().filter(|it| !near(it))));
+    println!("processor time of all stores: {:.0} µs a command", processor.as_secs_f64() * 1e6 / commands.len() as f64);
+    let own = commands.len() * (key(0).len() + LENGTH);
     println!(
         "written to the disk by all stores: {} bytes a command, {:.1} times what the keys and values have at {} replicas",
-        bytes / told.len().max(1) as u64,
+        bytes / commands.len().max(1) as u64,
         bytes as f64 / (own * cluster.replicas) as f64,
         cluster.replicas
     );
@@ -103,8 +104,8 @@ pub fn run(cluster: &Cluster, options: &Options) -> Result<Vec<String>, String> 
     if doubtful > 0 {
         faults.push(format!("{doubtful} commands may still be done"));
     }
-    if told.len() < wanted {
-        faults.push(format!("{} of {wanted} keys were set", told.len()));
+    if commands.len() < wanted {
+        faults.push(format!("{} of {wanted} keys were set", commands.len()));
     }
     for replica in 0..cluster.replicas {
         faults.extend(lost(cluster, replica, wanted)?);
@@ -127,7 +128,7 @@ pub fn run(cluster: &Cluster, options: &Options) -> Result<Vec<String>, String> 
 }
 
 impl Play<'_> {
-    /// Sets one key after the other at a replica, each until that is told, while there are more.
+    /// Sets one key after the other at a replica, each until that is answered, while there are more.
     fn set_all(&self, replica: usize) {
         let (mut client, mut own) = (None, Vec::new());
         loop {
@@ -144,7 +145,7 @@ impl Play<'_> {
                 // (after a failure the connection is of no use)
                 client = asked.filter(|_| matches!(reply, Some(Ok(_))));
                 match reply {
-                    Some(Ok(Reply::Simple(_))) => break own.push(Told { from, to: self.start.elapsed() }),
+                    Some(Ok(Reply::Simple(_))) => break own.push(Timed { from, to: self.start.elapsed() }),
                     Some(Ok(Reply::Error(text))) if Refusal::of(&text) == Some(Refusal::Undone) => {
                         self.undone.fetch_add(1, Ordering::Relaxed);
                     }
@@ -156,8 +157,8 @@ impl Play<'_> {
                 thread::sleep(Duration::from_millis(20));
             }
         }
-        if let Ok(mut told) = self.told.lock() {
-            told.extend(own);
+        if let Ok(mut commands) = self.commands.lock() {
+            commands.extend(own);
         }
     }
 
@@ -206,7 +207,7 @@ fn written_bytes(cluster: &Cluster) -> u64 {
 }
 
 /// The processor time of a command in each slice, by what the stores had taken when.
-fn shares(told: &[Told], times: &[(Duration, Duration)], slice: usize) -> String {
+fn shares(commands: &[Timed], times: &[(Duration, Duration)], slice: usize) -> String {
     let at = |moment: Duration| {
         let behind = times.partition_point(|(at, _)| *at < moment).min(times.len().saturating_sub(1));
         let (Some(before), Some(after)) = (times.get(behind.saturating_sub(1)), times.get(behind)) else { return 0.0 };
@@ -215,7 +216,7 @@ fn shares(told: &[Told], times: &[(Duration, Duration)], slice: usize) -> String
         before.1.as_secs_f64() + (after.1.saturating_sub(before.1)).as_secs_f64() * part.min(1.0)
     };
     let mut begin = Duration::ZERO;
-    let shares = told.chunks(slice).map(|slice| {
+    let shares = commands.chunks(slice).map(|slice| {
         let end = slice.last().map_or(begin, |it| it.to);
         let share = (at(end) - at(begin)) * 1e6 / slice.len() as f64;
         begin = end;
@@ -224,9 +225,9 @@ fn shares(told: &[Told], times: &[(Duration, Duration)], slice: usize) -> String
     shares.collect::<Vec<_>>().join(", ")
 }
 
-fn rates(told: &[Told], slice: usize) -> String {
+fn rates(commands: &[Timed], slice: usize) -> String {
     let mut begin = Duration::ZERO;
-    let rates = told.chunks(slice).map(|slice| {
+    let rates = commands.chunks(slice).map(|slice| {
         let end = slice.last().map_or(begin, |it| it.to);
         let rate = slice.len() as f64 / (end - begin).as_secs_f64();
         begin = end;
@@ -236,8 +237,8 @@ fn rates(told: &[Told], slice: usize) -> String {
 }
 
 /// The longest time between two answers, and that around each change.
-fn stretches(told: &[Told], changes: &[Duration]) -> String {
-    let gaps = || told.windows(2).map(|two| (two[0].to, two[1].to));
+fn stretches(commands: &[Timed], changes: &[Duration]) -> String {
+    let gaps = || commands.windows(2).map(|two| (two[0].to, two[1].to));
     let longest = gaps().map(|(from, to)| to - from).max().unwrap_or_default();
     let mut text = format!("{}", longest.as_millis());
     for change in changes {
@@ -248,8 +249,8 @@ fn stretches(told: &[Told], changes: &[Duration]) -> String {
     text
 }
 
-fn figures<'a>(told: impl Iterator<Item = &'a Told>) -> String {
-    let mut waits: Vec<Duration> = told.map(|it| it.to - it.from).collect();
+fn figures<'a>(commands: impl Iterator<Item = &'a Timed>) -> String {
+    let mut waits: Vec<Duration> = commands.map(|it| it.to - it.from).collect();
     waits.sort_unstable();
     let part = |share: usize| waits.get(waits.len().saturating_sub(1) * share / 100).copied().unwrap_or_default();
     let [median, most, longest] = [50, 99, 100].map(|share| part(share).as_secs_f64() * 1e3);
@@ -262,8 +263,8 @@ fn lost(cluster: &Cluster, replica: usize, wanted: usize) -> Result<Option<Strin
     let some = (0..wanted).step_by(wanted.div_ceil(READ));
     let mut lost = 0;
     for number in some {
-        let told = client.ask(&[b"GET", key(number).as_bytes()]).map_err(|error| error.to_string())?;
-        lost += usize::from(told != Reply::Bulk(Some(value(number))));
+        let reply = client.ask(&[b"GET", key(number).as_bytes()]).map_err(|error| error.to_string())?;
+        lost += usize::from(reply != Reply::Bulk(Some(value(number))));
     }
     Ok((lost > 0).then(|| format!("replica {replica} lacks {lost} of the keys that were read")))
 }

@@ -1,6 +1,7 @@
-//! The trial: clients of a cluster of stores note what they were told while replicas are killed, stopped and cut off;
-//! then it is checked.
+//! The trial: clients of a cluster of stores note what they were answered while replicas are killed, stopped and cut
+//! off; then it is checked.
 mod bank;
+mod chain;
 mod cluster;
 mod distance;
 mod growing;
@@ -81,10 +82,10 @@ fn play(options: &Options, round: usize) -> Result<usize, String> {
     let (Notes { all: notes, mut faults }, count) = work(options, round, &cluster);
     cluster.reach(options.least_changes);
     faults.extend(cluster.stop());
-    let told = notes.iter().filter(|note| note.operation.end.is_some()).count();
+    let answered = notes.iter().filter(|note| note.operation.end.is_some()).count();
     println!(
-        "round {round}: {told} commands told, {} not, {} proposed again; {} generations; {} kills, {} machines replaced, {} cuts, {} pauses; {}",
-        notes.len() - told,
+        "round {round}: {answered} commands told, {} not, {} proposed again; {} generations; {} kills, {} machines replaced, {} cuts, {} pauses; {}",
+        notes.len() - answered,
         verdict::count_lost(&cluster),
         cluster.newest(),
         count.kills,
@@ -121,7 +122,7 @@ fn work(options: &Options, round: usize, cluster: &Cluster) -> (Notes, Count) {
         start,
         is_over: AtomicBool::new(false),
         values: AtomicU32::new(0),
-        told: AtomicU64::new(0),
+        answered: AtomicU64::new(0),
         is_life: options.life,
     };
     let mut notes = Notes::default();
@@ -170,7 +171,7 @@ fn work(options: &Options, round: usize, cluster: &Cluster) -> (Notes, Count) {
     (notes, count)
 }
 
-/// How long clients waited for what they were told: of commands, and of reads.
+/// How long clients waited for replies: of commands, and of reads.
 fn waits(notes: &[Note]) -> String {
     let is_read = |note: &&Note| matches!(note.operation.action, Action::Get(_));
     let (reads, others): (Vec<&Note>, Vec<&Note>) = notes.iter().partition(is_read);

@@ -98,7 +98,7 @@ pub struct Options {
     pub least_changes: u32,
     pub rounds: usize,
     pub clients: usize,
-    /// So many commands have to be told at least; where they aren't, clients go on for half as long.
+    /// So many commands have to be answered at least; where they aren't, clients go on for half as long.
     pub commands: usize,
     /// Whether clients don't pause, and go on to other keys.
     pub life: bool,

@@ -16,12 +16,12 @@ pub fn write(work: &Work, is_wanted: bool) -> io::Result<()> {
     writeln!(file, "seconds,commands,generation,replicas,store_bytes,disk_bytes")?;
     while !work.is_over.load(Ordering::Relaxed) {
         let all: Vec<_> = work.cluster.machines().map(|replica| work.cluster.sample(replica)).collect();
-        let (seconds, told) = (work.start.elapsed().as_secs_f64(), work.told.load(Ordering::Relaxed));
+        let (seconds, answered) = (work.start.elapsed().as_secs_f64(), work.answered.load(Ordering::Relaxed));
         let generation = all.iter().map(|it| it.generation).max().unwrap_or(0);
         let replicas = all.iter().filter(|it| it.store > 0).count();
         let most = |of: fn(&Sample) -> u64| all.iter().map(of).max().unwrap_or(0);
         let (store, disk) = (most(|it| it.store), most(|it| it.disk));
-        writeln!(file, "{seconds:.1},{told},{generation},{replicas},{store},{disk}")?;
+        writeln!(file, "{seconds:.1},{answered},{generation},{replicas},{store},{disk}")?;
         thread::sleep(Duration::from_secs(1));
     }
     file.flush()

@@ -37,10 +37,10 @@ fn by_cli(cluster: &Cluster) -> Vec<String> {
     ];
     let mut faults = Vec::new();
     for (replica, words, expected) in asked {
-        let told = run_with_patience(cluster, replica, words);
-        let fits = if expected.is_empty() { told.is_empty() } else { told.contains(expected) };
+        let printed = run_with_patience(cluster, replica, words);
+        let fits = if expected.is_empty() { printed.is_empty() } else { printed.contains(expected) };
         if !fits {
-            faults.push(format!("redis-cli {words:?} at replica {replica}: {told}"));
+            faults.push(format!("redis-cli {words:?} at replica {replica}: {printed}"));
         }
     }
     println!("redis-cli was told what it should be in {} of {} cases", asked.len() - faults.len(), asked.len());
@@ -60,15 +60,15 @@ fn by_benchmark(port: u16, words: &[&str]) -> Result<(), String> {
         println!("no redis-benchmark is here");
         return Ok(());
     };
-    let told = String::from_utf8_lossy(&output.stdout).replace('\r', "\n");
-    let rates: Vec<_> = told.lines().filter(|line| line.contains("requests per second")).collect();
+    let printed = String::from_utf8_lossy(&output.stdout).replace('\r', "\n");
+    let rates: Vec<_> = printed.lines().filter(|line| line.contains("requests per second")).collect();
     rates.iter().for_each(|line| println!("redis-benchmark {}: {line}", words.join(" ")));
     let errors = String::from_utf8_lossy(&output.stderr);
     let wanted = words[1].split(',').count();
-    if output.status.success() && rates.len() == wanted && errors.is_empty() && !told.contains("rror") {
+    if output.status.success() && rates.len() == wanted && errors.is_empty() && !printed.contains("rror") {
         return Ok(());
     }
-    Err(format!("redis-benchmark {} ends with {}: {told} {errors}", words.join(" "), output.status))
+    Err(format!("redis-benchmark {} ends with {}: {printed} {errors}", words.join(" "), output.status))
 }
 
 /// What `redis-cli` prints. The store may still be starting.
@@ -76,9 +76,9 @@ fn run_with_patience(cluster: &Cluster, replica: usize, words: &[&str]) -> Strin
     let port = cluster.client_ports[replica].to_string();
     for _ in 0..50 {
         let Ok(output) = Command::new("redis-cli").args(["-p", &port]).args(words).output() else { break };
-        let told = String::from_utf8_lossy(&[output.stdout, output.stderr].concat()).trim().to_string();
-        if !told.contains("Connection refused") && !told.contains("takes no part") {
-            return told;
+        let printed = String::from_utf8_lossy(&[output.stdout, output.stderr].concat()).trim().to_string();
+        if !printed.contains("Connection refused") && !printed.contains("takes no part") {
+            return printed;
         }
         thread::sleep(Duration::from_millis(100));
     }

@@ -5,7 +5,7 @@ use crate::distance::begun;
 use std::process::{Child, Command, Stdio};
 use std::thread;
 use std::time::{Duration, Instant};
-use store::client::{Client, Reply};
+use testing::client::{Client, Reply};
 
 /// So many clients of each replica set so many values of so many bytes, each of a key of its own.
 const CLIENTS: usize = 16;
@@ -17,7 +17,7 @@ const MOST_TIMES: f64 = 2.6;
 /// How long the stores are stopped and run, in turns, in seconds.
 const STOPPED: &str = "0.08";
 const RUNNING: &str = "0.02";
-/// Longer than a store's patience, which is 10 s: in the end all have to be told.
+/// Longer than a store's patience, which is 10 s: in the end all have to be answered.
 const PATIENCE: Duration = Duration::from_secs(60);
 
 /// A process that stops and continues a replica, until it is dropped.
@@ -50,7 +50,7 @@ pub fn run(cluster: &Cluster) -> Result<Vec<String>, String> {
     let starving =
         (0..cluster.replicas).map(|replica| Starving::begin(cluster, replica)).collect::<Result<Vec<_>, _>>()?;
     let start = Instant::now();
-    let told: usize = thread::scope(|scope| {
+    let answered: usize = thread::scope(|scope| {
         let client = |place: usize| scope.spawn(move || set_all(cluster.client_ports[place % cluster.replicas], place));
         let clients: Vec<_> = (0..CLIENTS * cluster.replicas).map(client).collect();
         clients.into_iter().map(|client| client.join().unwrap_or(0)).sum()
@@ -65,12 +65,12 @@ pub fn run(cluster: &Cluster) -> Result<Vec<String>, String> {
     let times: Vec<f64> = logs.map(|log| log as f64 / bytes as f64).collect();
     let (mean, recovered) = (times.iter().sum::<f64>() / times.len() as f64, recoveries(cluster)? - recovered_before);
     println!(
-        "{told} of {values} values told in {:.1} s, {recovered} recoveries; logs of {times:.1?} times the values, mean {mean:.2}",
+        "{answered} of {values} values told in {:.1} s, {recovered} recoveries; logs of {times:.1?} times the values, mean {mean:.2}",
         time.as_secs_f64()
     );
     let mut faults = Vec::new();
-    if told < values {
-        faults.push(format!("{told} of {values} values were told"));
+    if answered < values {
+        faults.push(format!("{answered} of {values} values were told"));
     }
     if mean > MOST_TIMES {
         faults.push(format!("logs are more than {MOST_TIMES} times as long as the values"));
@@ -83,16 +83,16 @@ fn recoveries(cluster: &Cluster) -> Result<u64, String> {
     Ok(begun(cluster)?.iter().map(|begun| begun.recoveries).sum())
 }
 
-/// Sets values, one after the other, each until that is told: how many were.
+/// Sets values, one after the other, each until that is answered: how many were.
 fn set_all(port: u16, place: usize) -> usize {
     let (start, mut client, value) = (Instant::now(), None, vec![place as u8; LENGTH]);
     let mut set = |key: String| {
         while start.elapsed() < PATIENCE {
             let mut connected = client.take().or_else(|| Client::connect(port, PATIENCE).ok());
-            let told = connected.as_mut().map(|it| it.ask(&[b"SET", key.as_bytes(), &value]));
+            let reply = connected.as_mut().map(|it| it.ask(&[b"SET", key.as_bytes(), &value]));
             // (after an error the connection is of no use)
-            client = connected.filter(|_| matches!(told, Some(Ok(_))));
-            match told {
+            client = connected.filter(|_| matches!(reply, Some(Ok(_))));
+            match reply {
                 Some(Ok(Reply::Simple(_))) => return true,
                 _ => thread::sleep(Duration::from_millis(100)),
             }

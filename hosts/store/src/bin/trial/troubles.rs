@@ -83,15 +83,15 @@ impl Troubles<'_> {
         Ok(count)
     }
 
-    /// All have lost a seal when they start again, behind which clients were told of commands.
+    /// All have lost a seal when they start again, behind which commands were reported to clients.
     fn unseal(&mut self) -> Result<(), String> {
         self.cluster.seal(0);
         self.wait(1_000, 2_000);
-        let told = |error: std::io::Error| format!("a seal can't be forgotten: {error}");
+        let fault = |error: std::io::Error| format!("a seal can't be forgotten: {error}");
         let all = 0..self.cluster.replicas;
         all.clone().try_for_each(|replica| self.cluster.kill(replica))?;
-        self.cluster.forget_seal().map_err(told)?;
-        all.into_iter().try_for_each(|replica| self.cluster.launch(replica)).map_err(told)
+        self.cluster.forget_seal().map_err(fault)?;
+        all.into_iter().try_for_each(|replica| self.cluster.launch(replica)).map_err(fault)
     }
 
     fn kill(&mut self, empties: bool) -> Result<(), String> {
@@ -119,17 +119,17 @@ impl Troubles<'_> {
             self.wait(1_000, 1_500);
         }
         self.wait(20, 1_500);
-        let told = |error: std::io::Error| format!("a replica can't be started: {error}");
+        let fault = |error: std::io::Error| format!("a replica can't be started: {error}");
         if self.plant == Some(Plant::Older) {
             self.cluster.turn_back(killed[0])?;
         }
         if empties {
-            std::fs::write(self.cluster.log(killed[0]), b"").map_err(told)?;
+            std::fs::write(self.cluster.log(killed[0]), b"").map_err(fault)?;
         }
         if self.plant == Some(Plant::Unsynced) {
-            killed.iter().try_for_each(|replica| self.cluster.forget_last(*replica)).map_err(told)?;
+            killed.iter().try_for_each(|replica| self.cluster.forget_last(*replica)).map_err(fault)?;
         }
-        killed.into_iter().try_for_each(|replica| self.cluster.launch(replica)).map_err(told)
+        killed.into_iter().try_for_each(|replica| self.cluster.launch(replica)).map_err(fault)
     }
 
     /// Cuts and pauses: how many of each.

@@ -37,15 +37,16 @@ fn judge_notes(notes: &[Note]) -> Vec<String> {
     faults
 }
 
-/// Each command that was told has a receipt that says that it was done. (Of what was done without a reply there is none.)
+/// Each command that was answered has a receipt that says that it was done. (Of what was done without a reply there is
+/// none.)
 fn judge_receipts(cluster: &Cluster, notes: &[Note]) -> Result<(), String> {
     for replica in cluster.machines() {
         let (receipts, _) = count_receipts(cluster, replica)?;
-        let is_told = |note: &&Note| note.replica == replica && note.operation.end.is_some();
+        let is_answered = |note: &&Note| note.replica == replica && note.operation.end.is_some();
         let is_get = |note: &&Note| matches!(note.operation.action, Action::Get(_));
-        let told = notes.iter().filter(is_told).filter(|note| !is_get(note)).count();
-        if receipts == 0 && told > 0 {
-            return Err(format!("replica {replica} told of {told} commands and has no receipt"));
+        let answered = notes.iter().filter(is_answered).filter(|note| !is_get(note)).count();
+        if receipts == 0 && answered > 0 {
+            return Err(format!("replica {replica} told of {answered} commands and has no receipt"));
         }
     }
     Ok(())

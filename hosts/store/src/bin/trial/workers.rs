@@ -3,13 +3,13 @@ use crate::cluster::Cluster;
 use std::sync::atomic::{AtomicBool, AtomicU32, AtomicU64, Ordering};
 use std::thread;
 use std::time::{Duration, Instant};
-use store::client::{Client, Refusal, Reply};
 use store::linearizable::{Action, Operation};
 use store::random::Random;
+use testing::client::{Client, Refusal, Reply};
 
 /// Longer than a store's patience.
 const PATIENCE: Duration = Duration::from_secs(15);
-/// In the end a replica that tells nothing for so long is at fault: then nothing is cut, but the machine may be busy.
+/// In the end a replica that answers nothing for so long is at fault: then nothing is cut, but the machine may be busy.
 const AT_THE_END: Duration = Duration::from_secs(180);
 /// A connection is used for at most so many commands.
 const MOST_COMMANDS: u32 = 200;
@@ -22,7 +22,7 @@ const PAUSE: Duration = Duration::from_millis(45);
 const AGE: u64 = 8_000;
 const LIFE_KEYS: u64 = 100;
 
-/// What a client asked of a key and was told.
+/// What a client asked of a key and was answered.
 #[derive(Clone, Debug)]
 pub struct Note {
     pub key: u64,
@@ -51,8 +51,8 @@ pub struct Work<'a> {
     pub is_over: AtomicBool,
     /// The last value that was made.
     pub values: AtomicU32,
-    /// How many commands were told.
-    pub told: AtomicU64,
+    /// How many commands were answered.
+    pub answered: AtomicU64,
     /// Whether clients don't pause, and go on to other keys.
     pub is_life: bool,
 }
@@ -79,7 +79,7 @@ fn value_of(bytes: &[u8]) -> Option<u32> {
 }
 
 /// What came of a question.
-enum Told {
+enum Outcome {
     Answer(Action),
     /// It surely wasn't done.
     Refused,
@@ -92,13 +92,13 @@ impl Work<'_> {
         self.start.elapsed().as_nanos() as u64
     }
 
-    /// Waits until so many commands were told, for so long at most; whether they were.
+    /// Waits until so many commands were answered, for so long at most; whether they were.
     pub fn await_commands(&self, count: u64, patience: Duration) -> bool {
         let start = Instant::now();
-        while self.told.load(Ordering::Relaxed) < count && start.elapsed() < patience {
+        while self.answered.load(Ordering::Relaxed) < count && start.elapsed() < patience {
             thread::sleep(Duration::from_millis(100));
         }
-        self.told.load(Ordering::Relaxed) >= count
+        self.answered.load(Ordering::Relaxed) >= count
     }
 
     /// A client's work until the round is over: what it noted.
@@ -119,16 +119,16 @@ impl Work<'_> {
             };
             let key = self.choose_key(&mut random);
             let action = self.choose_action(&mut random, key);
-            let told = self.note(client, replica, key, action, &mut notes);
+            let outcome = self.note(client, replica, key, action, &mut notes);
             count += 1;
-            match told {
-                Told::Answer(_) => {}
-                Told::Refused => replica = random.below(self.cluster.replicas as u64) as usize,
+            match outcome {
+                Outcome::Answer(_) => {}
+                Outcome::Refused => replica = random.below(self.cluster.replicas as u64) as usize,
                 // Home, or wherever else somebody listens.
-                Told::Nothing if random.below(2) == 0 => replica = home,
-                Told::Nothing => replica = random.below(self.cluster.replicas as u64) as usize,
+                Outcome::Nothing if random.below(2) == 0 => replica = home,
+                Outcome::Nothing => replica = random.below(self.cluster.replicas as u64) as usize,
             }
-            if !matches!(told, Told::Answer(_)) || count % MOST_COMMANDS == 0 {
+            if !matches!(outcome, Outcome::Answer(_)) || count % MOST_COMMANDS == 0 {
                 connection = None;
             }
         }
@@ -144,7 +144,7 @@ impl Work<'_> {
 
     fn choose_key(&self, random: &mut Random) -> u64 {
         if self.is_life {
-            let age = self.told.load(Ordering::Relaxed) / AGE;
+            let age = self.answered.load(Ordering::Relaxed) / AGE;
             let place = if random.below(5) == 0 { 0 } else { 1 + random.below(LIFE_KEYS) };
             return age * (LIFE_KEYS + 1) + place;
         }
@@ -153,14 +153,14 @@ impl Work<'_> {
 
     /// All keys that may have been used. Some are long, and none is text alone.
     fn keys(&self) -> impl Iterator<Item = u64> + use<> {
-        let ages = self.told.load(Ordering::Relaxed) / AGE + 1;
+        let ages = self.answered.load(Ordering::Relaxed) / AGE + 1;
         0..if self.is_life { ages * (LIFE_KEYS + 1) } else { HOT_KEYS + COLD_KEYS }
     }
 
     fn choose_action(&self, random: &mut Random, key: u64) -> Action {
         let value = || self.values.fetch_add(1, Ordering::Relaxed) + 1;
         if self.is_life {
-            // (of others what nobody was told of can't be left out, and there is too much of it)
+            // (of others what was reported to nobody can't be left out, and there is too much of it)
             return match random.below(10) {
                 0..5 => Action::Get(None),
                 5 if !key.is_multiple_of(LIFE_KEYS + 1) => Action::Exchange(value(), None),
@@ -176,43 +176,43 @@ impl Work<'_> {
         }
     }
 
-    /// Asks, and notes what was told and when; but not what surely wasn't done.
-    fn note(&self, client: &mut Client, replica: usize, key: u64, action: Action, notes: &mut Notes) -> Told {
+    /// Asks, and notes what was answered and when; but not what surely wasn't done.
+    fn note(&self, client: &mut Client, replica: usize, key: u64, action: Action, notes: &mut Notes) -> Outcome {
         let start = self.now();
-        let told = ask(client, key, action).unwrap_or_else(|fault| {
+        let outcome = ask(client, key, action).unwrap_or_else(|fault| {
             notes.faults.push(fault);
-            Told::Nothing
+            Outcome::Nothing
         });
-        let (action, end) = match told {
-            Told::Answer(action) => {
-                self.told.fetch_add(1, Ordering::Relaxed);
+        let (action, end) = match outcome {
+            Outcome::Answer(action) => {
+                self.answered.fetch_add(1, Ordering::Relaxed);
                 (action, Some(self.now()))
             }
-            Told::Nothing => (action, None),
-            Told::Refused => return told,
+            Outcome::Nothing => (action, None),
+            Outcome::Refused => return outcome,
         };
         notes.all.push(Note { key, replica, operation: Operation { action, start, end } });
-        told
+        outcome
     }
 
     /// Reads all keys at a replica, in the end, with patience.
     pub fn read_all(&self, replica: usize) -> Notes {
         let mut notes = Notes::default();
-        let mut told_at = Instant::now();
+        let mut answered_at = Instant::now();
         let mut connection = None;
         let mut left: Vec<u64> = self.keys().collect();
         while let Some(key) = left.pop() {
-            if told_at.elapsed() > AT_THE_END {
+            if answered_at.elapsed() > AT_THE_END {
                 notes.faults.push(format!("replica {replica} doesn't answer in the end"));
                 return notes;
             }
-            let told = match self.connection(&mut connection, replica) {
+            let outcome = match self.connection(&mut connection, replica) {
                 Some(client) => self.note(client, replica, key, Action::Get(None), &mut notes),
-                None => Told::Nothing,
+                None => Outcome::Nothing,
             };
-            match told {
-                Told::Answer(_) => told_at = Instant::now(),
-                Told::Refused | Told::Nothing => {
+            match outcome {
+                Outcome::Answer(_) => answered_at = Instant::now(),
+                Outcome::Refused | Outcome::Nothing => {
                     connection = None;
                     left.push(key);
                     thread::sleep(Duration::from_millis(100));
@@ -224,7 +224,7 @@ impl Work<'_> {
 }
 
 /// An error is a reply that no store may give.
-fn ask(client: &mut Client, key: u64, action: Action) -> Result<Told, String> {
+fn ask(client: &mut Client, key: u64, action: Action) -> Result<Outcome, String> {
     let key = key_bytes(key);
     let reply = match action {
         Action::Get(_) => client.ask(&[b"GET", &key]),
@@ -233,23 +233,23 @@ fn ask(client: &mut Client, key: u64, action: Action) -> Result<Told, String> {
         Action::Exchange(value, _) => client.ask(&[b"SET", &key, &value_bytes(value), b"GET"]),
         Action::New(value, _) => client.ask(&[b"SET", &key, &value_bytes(value), b"NX", b"PX", b"3600000"]),
     };
-    let Ok(reply) = reply else { return Ok(Told::Nothing) };
+    let Ok(reply) = reply else { return Ok(Outcome::Nothing) };
     let value_in = |bytes: Option<Vec<u8>>| match bytes {
         None => Ok(None),
         Some(bytes) => value_of(&bytes).map(Some).ok_or("a value was told that nobody has set"),
     };
     match (action, reply) {
-        (Action::Get(_), Reply::Bulk(bytes)) => Ok(Told::Answer(Action::Get(value_in(bytes)?))),
+        (Action::Get(_), Reply::Bulk(bytes)) => Ok(Outcome::Answer(Action::Get(value_in(bytes)?))),
         (Action::Exchange(value, _), Reply::Bulk(bytes)) => {
-            Ok(Told::Answer(Action::Exchange(value, Some(value_in(bytes)?))))
+            Ok(Outcome::Answer(Action::Exchange(value, Some(value_in(bytes)?))))
         }
-        (Action::New(value, _), Reply::Simple(_)) => Ok(Told::Answer(Action::New(value, Some(true)))),
-        (Action::New(value, _), Reply::Bulk(None)) => Ok(Told::Answer(Action::New(value, Some(false)))),
-        (Action::Set(_), Reply::Simple(text)) if text == "OK" => Ok(Told::Answer(action)),
-        (Action::Del(_), Reply::Integer(count @ 0..2)) => Ok(Told::Answer(Action::Del(Some(count == 1)))),
+        (Action::New(value, _), Reply::Simple(_)) => Ok(Outcome::Answer(Action::New(value, Some(true)))),
+        (Action::New(value, _), Reply::Bulk(None)) => Ok(Outcome::Answer(Action::New(value, Some(false)))),
+        (Action::Set(_), Reply::Simple(text)) if text == "OK" => Ok(Outcome::Answer(action)),
+        (Action::Del(_), Reply::Integer(count @ 0..2)) => Ok(Outcome::Answer(Action::Del(Some(count == 1)))),
         (_, Reply::Error(text)) => match Refusal::of(&text) {
-            Some(Refusal::Undone) => Ok(Told::Refused),
-            Some(Refusal::Doubtful) => Ok(Told::Nothing),
+            Some(Refusal::Undone) => Ok(Outcome::Refused),
+            Some(Refusal::Doubtful) => Ok(Outcome::Nothing),
             None => Err(format!("an error that doesn't fit: {text}")),
         },
         (_, reply) => Err(format!("an answer that doesn't fit: {reply:?}")),

@@ -1,0 +1,399 @@
+//! Replies of one connection: written in the order of its commands, whatever finishes first.
+use crate::client::command_fault::CommandFault;
+use crate::client::memory::Share;
+use crate::client::outbox::{Message, Outbox};
+use crate::client::resp::{Reply, Version};
+use crate::core::keys::Keys;
+use crate::ops::metrics::Metrics;
+use std::collections::VecDeque;
+use std::io::{self, ErrorKind, Write};
+use std::sync::Arc;
+use std::sync::atomic::{AtomicBool, AtomicUsize, Ordering};
+use std::thread;
+use std::time::{Duration, Instant};
+
+/// So much of a connection may be under way.
+const MOST_UNDER_WAY: usize = 1_024;
+/// Replies wait where their client hasn't taken so many bytes of those before.
+const MOST_UNSENT: usize = 64 << 10;
+/// A client that takes nothing for so long is gone.
+const WRITE_PATIENCE: Duration = Duration::from_secs(30);
+/// After so long it is looked again for a reply that is on its way as its time is over.
+const SOON: Duration = Duration::from_millis(1);
+
+/// The replies that clients of all connections are due, so that a store ends once they have them.
+#[derive(Default)]
+pub struct Due {
+    count: AtomicUsize,
+    is_over: AtomicBool,
+}
+
+impl Due {
+    /// Counts one more, until it is let go.
+    pub fn begin(self: &Arc<Due>) -> OneDue {
+        self.count.fetch_add(1, Ordering::Relaxed);
+        OneDue(self.clone())
+    }
+
+    /// Whether no connection takes commands any more.
+    pub fn is_over(&self) -> bool {
+        self.is_over.load(Ordering::Relaxed)
+    }
+
+    /// From now on no connection takes commands. Waits until all that are due were written, for so long at most.
+    pub fn end(&self, patience: Duration) {
+        self.is_over.store(true, Ordering::Relaxed);
+        let start = Instant::now();
+        while self.count.load(Ordering::Relaxed) > 0 && start.elapsed() < patience {
+            thread::sleep(Duration::from_millis(2));
+        }
+    }
+}
+
+/// A reply that is due.
+pub struct OneDue(Arc<Due>);
+
+impl Drop for OneDue {
+    fn drop(&mut self) {
+        self.0.count.fetch_sub(1, Ordering::Relaxed);
+    }
+}
+
+/// Where a reply goes.
+pub struct ReplyTo {
+    /// None: nobody waits for it.
+    outbox: Option<Arc<Outbox>>,
+    /// The connection's number.
+    pub connection: u64,
+    place: Place,
+}
+
+/// What the reply is, to its connection.
+#[derive(Clone, Copy)]
+enum Place {
+    /// A part of the reply to its command of this number, from 0.
+    Part(u64, usize),
+    /// What was past its deadline was removed, for its look of this number.
+    Look(u64),
+}
+
+impl ReplyTo {
+    /// As this part of the reply to a connection's command.
+    pub fn part(outbox: Arc<Outbox>, connection: u64, command: u64, part: usize) -> ReplyTo {
+        ReplyTo { outbox: Some(outbox), connection, place: Place::Part(command, part) }
+    }
+
+    /// For a connection's look.
+    pub fn look(outbox: Arc<Outbox>, connection: u64, look: u64) -> ReplyTo {
+        ReplyTo { outbox: Some(outbox), connection, place: Place::Look(look) }
+    }
+
+    /// Nobody waits for it.
+    pub fn nobody() -> ReplyTo {
+        ReplyTo { outbox: None, connection: 0, place: Place::Look(0) }
+    }
+
+    pub fn send(self, reply: Reply) {
+        let Some(outbox) = self.outbox else { return };
+        // (where the connection has ended nobody takes it)
+        outbox.put(
+            self.connection,
+            match self.place {
+                Place::Part(command, part) => Message::Part(command, part, reply),
+                Place::Look(look) => Message::Removed(look, reply),
+            },
+        );
+    }
+}
+
+/// How the parts of a reply are put together.
+#[derive(Clone, Copy, PartialEq, Eq, Debug)]
+pub enum Combine {
+    One,
+    Sum,
+    List,
+    /// `OK`.
+    All,
+}
+
+impl Combine {
+    pub fn combine(self, mut parts: Vec<Reply>) -> Reply {
+        let several = parts.len() > 1;
+        if let Some(place) = parts.iter().position(|part| matches!(part, Reply::Error(_))) {
+            return match parts.swap_remove(place) {
+                Reply::Error(fault) if several => Reply::Error(CommandFault::AtKey(Box::new(fault), place + 1)),
+                fault => fault,
+            };
+        }
+        match self {
+            Combine::One => parts.pop().unwrap_or(Reply::Nil),
+            Combine::List => Reply::Array(parts),
+            Combine::All => Reply::Simple("OK"),
+            Combine::Sum => Reply::Integer(
+                parts.iter().map(|part| if let Reply::Integer(number) = part { *number } else { 0 }).sum(),
+            ),
+        }
+    }
+}
+
+/// A command whose reply isn't written yet.
+pub struct Slot {
+    pub combine: Combine,
+    pub parts: Vec<Part>,
+    pub version: Version,
+    pub begun: Instant,
+    /// When its client waits no longer and gets an error.
+    pub deadline: Instant,
+    /// What its words and its reply take.
+    pub share: Option<Share>,
+    /// Whether its wait is one: what is answered at once isn't.
+    pub is_counted: bool,
+    pub due: OneDue,
+}
+
+pub enum Part {
+    Come(Reply),
+    /// Asked of a key, under a number.
+    Asked(Vec<u8>, u64),
+    /// A transaction, of this number.
+    Joint(u64),
+    /// Asked of the driver, and of no use once its client waits no longer, who gets this then.
+    Wanted(Option<Reply>),
+}
+
+impl Slot {
+    fn is_ready(&self) -> bool {
+        self.parts.iter().all(|part| matches!(part, Part::Come(_)))
+    }
+
+    /// The whole reply, what it takes, and that it is due.
+    fn reply(self) -> (Reply, Option<Share>, OneDue) {
+        let come = |part| if let Part::Come(reply) = part { Some(reply) } else { None };
+        (self.combine.combine(self.parts.into_iter().filter_map(come).collect()), self.share, self.due)
+    }
+}
+
+/// The replies of one connection that aren't sent yet.
+pub struct Replies {
+    keys: Arc<Keys>,
+    metrics: Arc<Metrics>,
+    slots: VecDeque<Slot>,
+    /// The number of the first of these commands.
+    first: u64,
+    /// How much is under way, which is bounded.
+    under_way: usize,
+    out: Vec<u8>,
+    /// How many of these bytes are sent.
+    sent: usize,
+    /// How many bytes were written in all, and what is let go of once so many are sent.
+    written: u64,
+    held: VecDeque<(u64, OneDue, Option<Share>)>,
+    /// Since when the client takes nothing, if it doesn't.
+    stuck: Option<Instant>,
+}
+
+impl Replies {
+    pub fn new(keys: Arc<Keys>, metrics: Arc<Metrics>) -> Replies {
+        Replies {
+            keys,
+            metrics,
+            slots: VecDeque::new(),
+            first: 0,
+            under_way: 0,
+            out: Vec::new(),
+            sent: 0,
+            written: 0,
+            held: VecDeque::new(),
+            stuck: None,
+        }
+    }
+
+    /// Whether there is room for so much more, or nothing is under way.
+    pub fn has_room(&self, weight: usize) -> bool {
+        self.under_way == 0 || self.under_way + weight <= MOST_UNDER_WAY
+    }
+
+    /// Whether nothing is under way.
+    pub fn is_settled(&self) -> bool {
+        self.under_way == 0
+    }
+
+    /// Whether all that has begun is sent.
+    pub fn is_over(&self) -> bool {
+        self.slots.is_empty() && self.out.is_empty()
+    }
+
+    /// A command has begun: its number.
+    pub fn begin(&mut self, slot: Slot) -> u64 {
+        self.under_way += slot.parts.len();
+        self.slots.push_back(slot);
+        self.first + self.slots.len() as u64 - 1
+    }
+
+    /// A part of a command's reply has come.
+    pub fn take(&mut self, command: u64, part: usize, reply: Reply) {
+        // (what comes too late is of no use)
+        let place = command.checked_sub(self.first).map(|place| place as usize);
+        let Some(slot) = place.and_then(|place| self.slots.get_mut(place)) else { return };
+        if let Some(share) = &mut slot.share {
+            share.count(reply.size());
+        }
+        if let Some(part) = slot.parts.get_mut(part) {
+            *part = Part::Come(reply);
+        }
+    }
+
+    /// Sends what may be sent, as far as the client takes it.
+    pub fn send(&mut self, mut stream: impl Write) -> io::Result<()> {
+        loop {
+            self.write_ready();
+            if self.out.is_empty() || self.stuck.is_some() {
+                return Ok(());
+            }
+            match stream.write(&self.out[self.sent..]) {
+                Ok(0) => return Err(ErrorKind::WriteZero.into()),
+                Ok(length) => self.note_sent(length),
+                Err(error) if error.kind() == ErrorKind::WouldBlock => self.stuck = Some(Instant::now()),
+                Err(error) if error.kind() == ErrorKind::Interrupted => {}
+                Err(error) => return Err(error),
+            }
+        }
+    }
+
+    /// The client may take more by now.
+    pub fn unstick(&mut self) {
+        self.stuck = None;
+    }
+
+    /// So many more bytes are sent.
+    fn note_sent(&mut self, length: usize) {
+        self.sent += length;
+        if self.sent == self.out.len() {
+            self.out.clear();
+            self.out.shrink_to(MOST_UNSENT);
+            self.sent = 0;
+        } else if self.sent >= MOST_UNSENT && 2 * self.sent >= self.out.len() {
+            self.out.drain(..self.sent);
+            self.sent = 0;
+        }
+        let sent = self.written - (self.out.len() - self.sent) as u64;
+        while self.held.pop_front_if(|(end, ..)| *end <= sent).is_some() {}
+    }
+
+    /// Writes what is ready, to the bytes that are to be sent.
+    fn write_ready(&mut self) {
+        while self.out.len() - self.sent < MOST_UNSENT
+            && let Some(slot) = self.slots.pop_front_if(|slot| slot.is_ready())
+        {
+            self.first += 1;
+            self.under_way -= slot.parts.len();
+            let (version, begun, is_counted) = (slot.version, slot.begun, slot.is_counted);
+            let (reply, share, due) = slot.reply();
+            if is_counted {
+                self.metrics.waits.note(begun.elapsed());
+                let is_fault = matches!(reply, Reply::Error(_));
+                if is_fault { &self.metrics.refused } else { &self.metrics.answered }.add(1);
+            }
+            let before = self.out.len();
+            // (memory takes all of it)
+            let _ = reply.write(&mut self.out, version);
+            self.written += (self.out.len() - before) as u64;
+            self.held.push_back((self.written, due, share));
+        }
+    }
+
+    /// When something is to be done though nothing comes.
+    pub fn due(&self) -> Option<Instant> {
+        let stuck = self.stuck.map(|since| since + WRITE_PATIENCE);
+        self.slots.front().map(|slot| slot.deadline).into_iter().chain(stuck).min()
+    }
+
+    /// Whether the client takes nothing any more.
+    pub fn is_lost(&self, now: Instant) -> bool {
+        self.stuck.is_some_and(|since| now >= since + WRITE_PATIENCE)
+    }
+
+    /// The client of the first command waits no longer, where its time is over.
+    pub fn withdraw(&mut self, now: Instant) {
+        let Some(slot) = self.slots.front_mut().filter(|slot| slot.deadline <= now) else { return };
+        for part in &mut slot.parts {
+            let reply = match part {
+                Part::Come(_) => None,
+                // Where there is none the reply is under way.
+                Part::Asked(key, id) => self.keys.withdraw(*id, key).map(Reply::Error),
+                Part::Joint(number) => self.keys.withdraw_transaction(*number).map(Reply::Error),
+                Part::Wanted(other) => Some(other.take().unwrap_or(Reply::Error(CommandFault::NotInTime))),
+            };
+            if let Some(reply) = reply {
+                *part = Part::Come(reply);
+            }
+        }
+        slot.deadline = now + SOON;
+    }
+}
+
+#[cfg(test)]
+mod tests {
+    use super::*;
+    use crate::client::memory::Memory;
+    use crate::core::keys::tests::Store;
+
+    /// A client that takes so many bytes more.
+    struct Taking(Vec<u8>, usize);
+
+    impl Write for Taking {
+        fn write(&mut self, bytes: &[u8]) -> io::Result<usize> {
+            let length = bytes.len().min(self.1);
+            self.0.extend(&bytes[..length]);
+            self.1 -= length;
+            if length == 0 { Err(ErrorKind::WouldBlock.into()) } else { Ok(length) }
+        }
+
+        fn flush(&mut self) -> io::Result<()> {
+            Ok(())
+        }
+    }
+
+    fn slot(parts: usize, share: Option<Share>, due: &Arc<Due>) -> Slot {
+        let (begun, version) = (Instant::now(), Version::Two);
+        let (parts, combine) = ((0..parts).map(|_| Part::Wanted(None)).collect(), Combine::List);
+        Slot { combine, parts, version, begun, deadline: begun, share, is_counted: true, due: due.begin() }
+    }
+
+    #[test]
+    fn they_are_sent_in_order_as_far_as_they_are_taken() {
+        let (store, memory, due) = (Store::new(), Memory::new(1 << 30), Arc::<Due>::default());
+        let mut replies = Replies::new(store.keys.clone(), Arc::default());
+        let mut client = Taking(Vec::new(), 100);
+        let numbers = [2, 1].map(|parts| replies.begin(slot(parts, memory.share(10), &due)));
+        assert!(numbers == [0, 1] && replies.has_room(MOST_UNDER_WAY - 3) && !replies.has_room(MOST_UNDER_WAY - 2));
+        replies.take(1, 0, Reply::Integer(3));
+        replies.take(0, 1, Reply::Integer(2));
+        replies.send(&mut client).unwrap();
+        assert!(client.0.is_empty() && !replies.is_settled());
+        replies.take(0, 0, Reply::Integer(1));
+        replies.send(&mut client).unwrap();
+        assert_eq!(client.0, b"*2\r\n:1\r\n:2\r\n*1\r\n:3\r\n");
+        assert!(replies.is_over() && memory.used() == 0 && due.count.load(Ordering::Relaxed) == 0);
+        // What isn't taken is bounded: the rest stays as it came, and all of it counts until it is sent.
+        client.1 = 10;
+        let long = vec![b'v'; MOST_UNSENT / 2];
+        for number in 2..8 {
+            replies.begin(slot(1, memory.share(10), &due));
+            replies.take(number, 0, Reply::Bulk(long.clone()));
+        }
+        replies.send(&mut client).unwrap();
+        assert!(replies.slots.len() == 4 && replies.out.len() < 2 * MOST_UNSENT && replies.due().is_some());
+        assert!(memory.used() > 6 * long.len() && due.count.load(Ordering::Relaxed) == 6);
+        assert!(!replies.is_lost(Instant::now()) && replies.is_lost(Instant::now() + WRITE_PATIENCE));
+        client.1 = 2 * long.len();
+        replies.send(&mut client).unwrap();
+        assert_eq!((client.1, replies.slots.len()), (2 * long.len(), 4));
+        replies.unstick();
+        replies.send(&mut client).unwrap();
+        assert!(replies.slots.len() < 3 && due.count.load(Ordering::Relaxed) == 5);
+        (replies.unstick(), client.1 = usize::MAX);
+        replies.send(&mut client).unwrap();
+        assert!(replies.is_over() && memory.used() == 0 && due.count.load(Ordering::Relaxed) == 0);
+    }
+}

@@ -1,0 +1,31 @@
+//! What comes to the thread that serves.
+use crate::core::ask::Ask;
+use crate::core::worked::Worked;
+use crate::life::identities::Identity;
+
+/// What comes to the thread that serves.
+pub enum Event {
+    /// What a peer sent: a frame, or a message of its host.
+    Came { from: u8, bytes: Vec<u8> },
+    /// A connection to this peer was opened.
+    PeerReached(u8),
+    /// It is over.
+    PeerLost(u8),
+    /// It has opened one to this replica.
+    PeerCame(u8),
+    /// A machine of this identity waits to be let in under this number.
+    Waits(u8, Identity),
+    /// A client asks.
+    Ask(Ask),
+    /// A thread in the background has done this.
+    Worked(Worked),
+    /// The store is to end, once those who wait were answered.
+    End,
+}
+
+impl Event {
+    /// How many bytes a peer has sent by it.
+    pub fn bytes(&self) -> usize {
+        if let Event::Came { bytes, .. } = self { bytes.len() } else { 0 }
+    }
+}

@@ -1,0 +1,62 @@
+//! What became of a command.
+use crate::ops::manage_fault::ManageFault;
+use epaxos::host::{self, Refusal};
+use epaxos::{Fault, OwnedAnswer};
+
+/// Keys with their values.
+pub type Pairs = Vec<(Vec<u8>, Vec<u8>)>;
+
+/// What became of a command.
+pub enum Outcome {
+    /// What the command was answered.
+    Done(OwnedAnswer),
+    /// It was done, and what it was answered isn't known.
+    DoneUnseen,
+    /// Nobody knows whether it was done, nor will be.
+    Doubtful,
+    Refused(Fault),
+    /// It wasn't proposed, as no majority is reached.
+    Alone,
+    /// It wasn't done, as it waited for too long.
+    Late,
+    /// It wasn't proposed, as the map has no room for it.
+    MapFull,
+    /// It wasn't done, as the store ends, or takes part no more.
+    Ending,
+    Value(Option<Vec<u8>>),
+    Contents(Pairs),
+    Over(Vec<Vec<u8>>),
+    Info(String),
+    Managed(Result<String, ManageFault>),
+    /// The thread that serves has ended: what was proposed may still be done.
+    Ended,
+}
+
+impl Outcome {
+    /// By what the host reports.
+    pub fn of(outcome: host::Told) -> Outcome {
+        match outcome {
+            host::Told::Done(answer) => Outcome::Done(answer),
+            // (there is no state machine)
+            host::Told::Replied(_) | host::Told::DoneUnseen => Outcome::DoneUnseen,
+            host::Told::Doubtful => Outcome::Doubtful,
+            host::Told::Value(value) => Outcome::Value(value),
+            host::Told::All(pairs) => Outcome::Contents(pairs),
+            host::Told::Changed(generation) => Outcome::Managed(Ok(so_from(generation, None))),
+            host::Told::Refused(why) => match why {
+                Refusal::Alone | Refusal::Joining => Outcome::Alone,
+                Refusal::Late | Refusal::GivenUp | Refusal::Full => Outcome::Late,
+                Refusal::MapFull => Outcome::MapFull,
+                Refusal::Left | Refusal::Ending => Outcome::Ending,
+                Refusal::Wish(fault) => Outcome::Managed(Err(fault.into())),
+                Refusal::Fault(fault) => Outcome::Refused(fault),
+            },
+        }
+    }
+}
+
+/// The text that reports a change that is so from this generation on, which has so many replicas.
+pub fn so_from(generation: u32, size: Option<u8>) -> String {
+    let size = size.map_or_else(String::new, |size| format!(", of {size} replicas"));
+    format!("generation {generation}{size}")
+}
