@@ -9,3 +9,6 @@ pub mod Powers
 pub mod Merging
 pub mod TxWords
 pub mod SaidItems
+pub mod ItemsBehind
+pub mod FirstLine
+pub mod WordsBehind

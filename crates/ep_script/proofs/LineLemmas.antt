@@ -11,7 +11,7 @@ use Rattle.ep_script.specs.RawLines.{raw_lines, lines_of_parts, GotOf, longest}
 use Rattle.ep_script.proofs.Splitting.{begins, rest_begins}
 use Rattle.ep_script.specs.declared.got.Got.TheVariants.{Line, End, TooLong}
 
-abbrev feeds : ℕ → Bool
+abbrev pub feeds : ℕ → Bool
 feeds b = b == 10
 
 split_cons : (zs : List ℕ) → (y : List ℕ) × (ys : List (List ℕ)) × (slice_split feeds zs ≡ y ∷ ys)
@@ -100,7 +100,7 @@ pub so_far_long : (zs line window : List ℕ) (left : Option (List ℕ)) → lon
 so_far_long zs line window left long h = long_line zs line h.0 h.1 h.3 long
 
 -- bytes before the first line feed
-plain_take : (n : ℕ) (bs : List ℕ) → n ≤ position_or_len feeds bs → All IsNoFeed (take n bs)
+pub plain_take : (n : ℕ) (bs : List ℕ) → n ≤ position_or_len feeds bs → All IsNoFeed (take n bs)
 plain_take zero bs h = All-nil IsNoFeed
 plain_take (suc n) [] h = All-nil IsNoFeed
 plain_take (suc n) (b ∷ bs) h = go (feeds b) refl h (λ k. plain_take n bs k)
@@ -109,7 +109,7 @@ plain_take (suc n) (b ∷ bs) h = go (feeds b) refl h (λ k. plain_take n bs k)
     go true e k f = absurd (omega arith)
     go false e k f = All-cons IsNoFeed b (take n bs) e (f (omega arith))
 
-feed_first : (d : List ℕ) → begins feeds d → d ≢ [] → d ≡ 10 ∷ drop 1 d
+pub feed_first : (d : List ℕ) → begins feeds d → d ≢ [] → d ≡ 10 ∷ drop 1 d
 feed_first [] h some = absurd (some refl)
 feed_first (y ∷ ys) h some = ap (λ (b : ℕ). b ∷ ys) (ten y h)
   where

@@ -13,3 +13,7 @@ pub mod Frames
 pub mod Fits
 pub mod Outcome
 pub mod Faults
+pub mod ItemWords
+pub mod Operands
+pub mod Refusals
+pub mod Forms

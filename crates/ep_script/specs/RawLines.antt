@@ -1,6 +1,8 @@
 -- The lines of some bytes, and what reading one answers.
-use Rattle.std.specs.Prelude.{◌≡◌, ℕ, ◌<◌, ◌≤◌, ◌==◌, List, [], ◌∷◌, Option, length}
+use Rattle.std.specs.Prelude.{◌≡◌, ℕ, ◌<◌, ◌≤◌, ◌==◌, List, [], ◌∷◌, Option, Some, None, length, map}
+use Rattle.std.specs.Borrow.{Bor}
 use Rattle.std.specs.List.{slice_split}
+use Rattle.std.specs.Str.Lines.{strip_carriage_return}
 use Rattle.ep_script.specs.Window.{HasLeft}
 use Rattle.ep_script.specs.declared.got.Got.{Got}
 use Rattle.ep_script.specs.declared.got.Got.TheVariants.{Line, End, TooLong}
@@ -15,6 +17,15 @@ lines_of_parts (x ∷ y ∷ more) = x ∷ lines_of_parts (y ∷ more)
 -- lines end by a line feed, which the last one may lack
 abbrev pub raw_lines : List ℕ → List (List ℕ)
 raw_lines zs = lines_of_parts (slice_split (λ b. b == 10) zs)
+
+-- each without one carriage return at its end
+abbrev pub bare_lines : List ℕ → List (List ℕ)
+bare_lines zs = map strip_carriage_return (raw_lines zs)
+
+-- the first of them was read, and these bytes are left; or there is none
+abbrev pub IsNextLine : List ℕ → List ℕ → Option (Bor (List ℕ)) → Type 0
+IsNextLine zs rest None = (bare_lines zs ≡ []) × (bare_lines rest ≡ [])
+IsNextLine zs rest (Some line) = bare_lines zs ≡ line.now ∷ bare_lines rest
 
 -- the longest that a line can be with a carriage return
 abbrev pub longest : ℕ

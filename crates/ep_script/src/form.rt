@@ -1,5 +1,8 @@
 //! The forms of lines and of commands.
 
+ghost use Rattle.std.specs.Prelude.{◌≡◌, option_copied};
+ghost use Rattle.ep_script.specs.Forms.{form_with};
+
 use crate::operand::Operand;
 use crate::standing::Standing;
 use crate::words::is_word;
@@ -172,7 +175,9 @@ pub const COMMANDS: [Form; 9] = [
 ];
 
 /// The form that begins with this word.
-pub(crate) fn form_of(forms: &'static [Form], word: &[u8]) -> Option<&'static Form> {
+pub(crate) fn form_of(forms: &'static [Form], word: &[u8]) -> Option<&'static Form>
+    ensures { option_copied result ≡ form_with word.now forms.now }
+{
     for form in forms {
         if is_word(word, form.word) {
             return Some(form);

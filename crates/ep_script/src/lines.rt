@@ -1,5 +1,8 @@
 //! Lines of a text.
 
+ghost use Rattle.std.specs.Prelude.{◌≡◌};
+ghost use Rattle.ep_script.specs.RawLines.{IsNextLine};
+
 use crate::script_draft::without_return;
 use memchr::memchr;
 
@@ -11,12 +14,16 @@ pub struct Lines<'a> {
 
 impl<'a> Lines<'a> {
     /// All lines of the bytes.
-    pub fn new(bytes: &'a [u8]) -> Lines<'a> {
+    pub fn new(bytes: &'a [u8]) -> Lines<'a>
+        ensures { result.rest.now ≡ bytes.now }
+    {
         Lines { rest: bytes }
     }
 
     /// The next line, without its line feed and one carriage return; none at the end.
-    pub fn next_line(&mut self) -> Option<&'a [u8]> {
+    pub fn next_line(&mut self) -> Option<&'a [u8]>
+        ensures { IsNextLine self.old.rest.now self.new.rest.now result }
+    {
         if self.rest.is_empty() {
             return None;
         }

@@ -1,5 +1,8 @@
 //! What words of lines may be.
 
+ghost use Rattle.std.specs.Prelude.{◌≡◌};
+ghost use Rattle.ep_script.specs.Operands.{range_of, highest_replica as last_replica, most_value_in};
+
 use ep_base::{Size, Value, Version};
 
 /// What a word of a line may be.
@@ -53,7 +56,9 @@ pub enum Operand {
 
 impl Operand {
     /// The least and the most that the number may be, or how many bytes may be spelled.
-    pub fn range(self, size: Option<Size>, version: Version) -> (u64, u64) {
+    pub fn range(self, size: Option<Size>, version: Version) -> (u64, u64)
+        ensures { result ≡ range_of self size version }
+    {
         match self {
             Operand::Generation | Operand::Client | Operand::Message | Operand::Place => (
                 1,
@@ -68,13 +73,17 @@ impl Operand {
     }
 }
 
-fn highest_replica(size: Option<Size>) -> u64 {
+fn highest_replica(size: Option<Size>) -> u64
+    ensures { result ≡ last_replica size }
+{
     match size {
         None => 0,
         Some(size) => u64::from(size.count()).saturating_sub(1),
     }
 }
 
-fn most_value(version: Version) -> u64 {
+fn most_value(version: Version) -> u64
+    ensures { result ≡ most_value_in version }
+{
     if version.number() == 3 { 65_535 } else { 1024 }
 }

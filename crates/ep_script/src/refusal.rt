@@ -1,5 +1,10 @@
 //! Why a line of a script is refused.
 
+ghost use Rattle.std.specs.Prelude.{◌≡◌, ◌-◌, ◌<◌, [], length, is_some, ◌&&◌, IfSome};
+ghost use Rattle.std.specs.Str.{bytes_eq};
+ghost use Rattle.ep_script.specs.Parts.{words_of};
+ghost use Rattle.ep_script.specs.Refusals.{word_behind, BeginsWithByte, fault_at, is_in_range, may_stand, misplaced_at};
+
 use crate::form::{COMMANDS, Form, LINES, form_of};
 use crate::item_words::{ItemWords, is_item};
 use crate::lines::Lines;
@@ -151,7 +156,9 @@ impl<'a> Refusal<'a> {
     }
 
     /// Why a line that stands there may not stand here.
-    fn misplaced(&self, standing: Standing) -> Why {
+    fn misplaced(&self, standing: Standing) -> Why
+        ensures { result ≡ misplaced_at standing self.now.size self.now.version self.now.of self.now.is_within }
+    {
         let is_late = self.version.number() == 3;
         match standing {
             Standing::First if self.size.is_some() => Why::Misplaced,
@@ -166,7 +173,9 @@ impl<'a> Refusal<'a> {
     }
 
     /// Whether a line, or a command, that stands there may stand behind the head of this script.
-    pub fn may_have(&self, standing: Standing) -> bool {
+    pub fn may_have(&self, standing: Standing) -> bool
+        ensures { result ≡ (is_some self.now.size && may_stand standing self.now.of self.now.version) }
+    {
         match standing {
             Standing::First | Standing::Second | Standing::Opening => false,
             _ => self.misplaced(standing) == Why::Nothing,
@@ -314,7 +323,9 @@ impl<'a> Refusal<'a> {
     }
 
     /// Whether the number is in the range of what may stand there.
-    fn has(&self, value: u64) -> bool {
+    fn has(&self, value: u64) -> bool
+        ensures { result ≡ is_in_range self.now.operand self.now.size self.now.version value }
+    {
         if self.operand == Operand::Size {
             return matches!(value, 3 | 5 | 7);
         }
@@ -432,7 +443,10 @@ fn operands_of(form: &'static Form, words: &[u8]) -> &'static [Operand] {
 }
 
 /// The word at this place of the line, from 1; no bytes where there is none.
-fn word_at(line: &[u8], place: u32) -> &[u8] {
+#[tactic(auto, using(crate::proofs::WordsBehind::behind_more, crate::proofs::WordsBehind::behind_none))]
+fn word_at(line: &[u8], place: u32) -> &[u8]
+    ensures { result.now ≡ word_behind [] place (words_of line.now) }
+{
     let mut found: &[u8] = &[];
     let mut left = line;
     for _ in 0..place {
@@ -445,12 +459,17 @@ fn word_at(line: &[u8], place: u32) -> &[u8] {
     found
 }
 
-fn begins(line: &[u8], word: &[u8]) -> bool {
+fn begins(line: &[u8], word: &[u8]) -> bool
+    ensures { result ≡ bytes_eq (word_behind [] 1 (words_of line.now)) word.now }
+{
     is_word(word_at(line, 1), word)
 }
 
 /// The first byte that a word spells, and what follows it; none where it spells none.
-fn next_byte(word: &[u8]) -> Option<(u8, &[u8])> {
+fn next_byte(word: &[u8]) -> Option<(u8, &[u8])>
+    ensures byte { BeginsWithByte word.now result }
+    ensures shorter { IfSome result (λ x. length x.1.now < length word.now) }
+{
     match word {
         [b'%', after @ ..] => escaped(after),
         [first, after @ ..] if is_plain_byte(*first) => Some((*first, after)),
@@ -459,7 +478,9 @@ fn next_byte(word: &[u8]) -> Option<(u8, &[u8])> {
 }
 
 /// Why the word spells no bytes, by what of it is left from the byte at fault on.
-fn no_byte(word: &[u8], rest: &[u8]) -> Why {
+fn no_byte(word: &[u8], rest: &[u8]) -> Why
+    ensures { result ≡ fault_at (length word.now - length rest.now) rest.now }
+{
     let place = word.len().saturating_sub(rest.len());
     match rest {
         [b'%', ..] => Why::Escape(place),
