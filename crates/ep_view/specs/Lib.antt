@@ -12,3 +12,4 @@ pub mod TraceFiles
 pub mod Labels
 pub mod Sequences
 pub mod Graphs
+pub mod Columns

@@ -1,5 +1,8 @@
 //! The entries of journals side by side, in a column a replica.
 
+ghost use Rattle.std.specs.Prelude.{◌≡◌, ◌++◌, OnOk};
+ghost use Rattle.ep_view.specs.Columns.{IsCut, IsFirstRow, row_text};
+
 use crate::editions::push_edition;
 use crate::handled::Handled;
 use crate::lines::push_happened;
@@ -19,7 +22,9 @@ const GAP: &[u8] = b"                         ";
 
 // Where the first row of a text that is wider than a column ends, and where the next one begins: at the last space that leaves
 // the row no wider than the column, or else at the column's end.
-fn cut_of(text: &[u8]) -> (usize, usize) {
+fn cut_of(text: &[u8]) -> (usize, usize)
+    ensures { IsCut text.now result }
+{
     let mut cut = (WIDTH, WIDTH);
     for place in 1..WIDTH + 1 {
         if text.get(place) == Some(&b' ') {
@@ -30,7 +35,9 @@ fn cut_of(text: &[u8]) -> (usize, usize) {
 }
 
 // The first row of a text, and what is left of it.
-fn first_row(text: &[u8]) -> (&[u8], &[u8]) {
+fn first_row(text: &[u8]) -> (&[u8], &[u8])
+    ensures { IsFirstRow text.now result.0.now result.1.now }
+{
     if text.len() <= WIDTH {
         return (text, &[]);
     }
@@ -42,7 +49,9 @@ fn first_row(text: &[u8]) -> (&[u8], &[u8]) {
 }
 
 // Appends a row in the replica's column.
-fn push_row(text: &mut Vec<u8>, replica: u8, row: &[u8]) -> Result<(), AllocError> {
+fn push_row(text: &mut Vec<u8>, replica: u8, row: &[u8]) -> Result<(), AllocError>
+    ensures { OnOk result (text.new.items ≡ text.old.items ++ row_text replica row.now) }
+{
     for _ in 0..usize::from(replica) * (WIDTH + 2) {
         text.push(b' ')?;
     }
