@@ -4,3 +4,4 @@ mod Named
 mod Serving
 mod Replayed
 mod Gathered
+mod Spelled

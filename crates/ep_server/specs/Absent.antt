@@ -1,5 +1,10 @@
 -- The lines of folders that lack a generation.
-use Rattle.std.specs.Prelude.{ℕ, Bool, cond, List, [], ◌++◌, codes, decimal}
+use Rattle.std.specs.Prelude.{ℕ, Bool, cond, List, [], ◌++◌, codes, decimal, map}
+use Rattle.ep_folder.specs.declared.generation_folder.GenerationFolder.{GenerationFolder}
+
+-- the generations of which a folder has something
+abbrev pub numbers_of : List GenerationFolder → List ℕ
+numbers_of held = map (λ one. one.number) held
 
 -- where the generations of a store are
 abbrev pub beside_text : List ℕ → Bool → List ℕ

@@ -3,3 +3,4 @@ pub mod Faults
 pub mod NamedFiles
 pub mod Replays
 pub mod Served
+pub mod Words

@@ -1,7 +1,8 @@
 //! Folders that lack a generation.
 
-ghost use Rattle.std.specs.Prelude.{◌≡◌, ◌++◌, IfErr, IfOk, OnOk};
-ghost use Rattle.ep_server.specs.Absent.{absent_line, beside_text, empty_line};
+ghost use Rattle.std.specs.Prelude.{◌≡◌, ◌++◌, IfErr, IfOk, OnOk, max, min, option_map};
+ghost use Rattle.std.specs.List.{reduce};
+ghost use Rattle.ep_server.specs.Absent.{absent_line, beside_text, empty_line, numbers_of};
 ghost use Rattle.ep_server.specs.NamedFiles.{IsUnopened};
 
 use ep_base::Generation;
@@ -66,7 +67,10 @@ pub(crate) fn empty<R: Files + AllocGlobal>(rt: &R, folder: &str) -> FilesFault 
 }
 
 /// The least and the greatest number, if there are some.
-fn ends_of(held: &[GenerationFolder]) -> Option<(u32, u32)> {
+fn ends_of(held: &[GenerationFolder]) -> Option<(u32, u32)>
+    ensures oldest { option_map (λ ends. ends.0) result ≡ reduce min (numbers_of held.now) }
+    ensures newest { option_map (λ ends. ends.1) result ≡ reduce max (numbers_of held.now) }
+{
     let mut oldest = held.first()?.number;
     let mut newest = oldest;
     for one in held {

@@ -1,5 +1,15 @@
 //! The words of the command line.
 
+ghost use Rattle.std.specs.Prelude.{◌≡◌, [], ◌∷◌, Bool, cond, Some, None, codes, is_none};
+ghost use Rattle.clap.specs.Matches.{first_value, found_of};
+ghost use Rattle.clap.specs.Walk.{Text};
+ghost use Rattle.ep_base.specs.Quorums.{size as count_of};
+ghost use Rattle.ep_folder.specs.Paths.{generation_in as generation_spelled};
+ghost use Rattle.ep_node.specs.declared.begin.Begin.TheVariants as begin;
+ghost use Rattle.ep_script.specs.Grammar.{replica_of, size_word};
+ghost use Rattle.ep_server.specs.Words.{IsFlag, Takes, go_together, has, numbers_text};
+ghost use Rattle.ep_server.specs.declared.asks.Asks.TheVariants as asks;
+
 use crate::asks::Asks;
 use crate::collect_names::CollectNames;
 use crate::commands::{collect, contents, move_logs, node};
@@ -83,7 +93,11 @@ fn node_by<'a>(alloc: Global, options: &ArgMatches<'a>) -> Result<ServerAsked<'a
 }
 
 /// Why these options don't go together: one place is to be named, and what is to be begun or taken goes with it.
-fn clash(options: &ArgMatches<'_>) -> Option<&'static str> {
+fn clash(options: &ArgMatches<'_>) -> Option<&'static str>
+    ensures { let f = found_of options.now in
+        (new : Bool) → IsFlag f (codes "new") new
+        → is_none result ≡ go_together (has f (codes "log")) (has f (codes "dir")) (has f (codes "take")) new }
+{
     let has_log = options.get_str("log").is_some();
     let has_folder = options.get_str("dir").is_some();
     let takes = options.get_str("take").is_some();
@@ -101,7 +115,12 @@ fn clash(options: &ArgMatches<'_>) -> Option<&'static str> {
 }
 
 /// What is asked of the folder.
-fn asks_of<'a>(options: &ArgMatches<'a>) -> Asks<'a> {
+fn asks_of<'a>(options: &ArgMatches<'a>) -> Asks<'a>
+    ensures take { (name : Text) → first_value (found_of options.now) (codes "take") ≡ Some name → Takes name result }
+    ensures other { let f = found_of options.now in
+        (new : Bool) → first_value f (codes "take") ≡ None → IsFlag f (codes "new") new
+        → result ≡ cond new asks.New asks.GoOn }
+{
     match options.get_str("take") {
         Some(name) => Asks::Take(name),
         None if options.get_flag("new") => Asks::New,
@@ -110,7 +129,10 @@ fn asks_of<'a>(options: &ArgMatches<'a>) -> Asks<'a> {
 }
 
 /// Whether the log is to be begun.
-fn begin_of(options: &ArgMatches<'_>) -> Begin {
+fn begin_of(options: &ArgMatches<'_>) -> Begin
+    ensures { let f = found_of options.now in
+        (new : Bool) → IsFlag f (codes "new") new → result ≡ cond new begin.New begin.Existing }
+{
     if options.get_flag("new") {
         Begin::New
     } else {
@@ -148,7 +170,10 @@ fn generation_by<'a>(
     }))
 }
 
-fn generation_named(word: &str) -> Option<Generation> {
+/// The generation that the word spells, in decimal without a zero in front.
+fn generation_named(word: &str) -> Option<Generation>
+    ensures { result ≡ generation_spelled word.now }
+{
     let number = generation_in(word.as_bytes())?;
     Generation::new(number).ok()
 }
@@ -188,7 +213,10 @@ fn size_of(alloc: Global, options: &ArgMatches<'_>) -> Result<Size, WordsFault> 
     }
 }
 
-fn size_named(word: &str) -> Option<Size> {
+/// The size that the word spells, as behind `replicas` in a script.
+fn size_named(word: &str) -> Option<Size>
+    ensures { result ≡ size_word (word.now ∷ []) }
+{
     let count = number_in(word.as_bytes(), 3, 7)?;
     Size::new(count as u8).ok()
 }
@@ -206,13 +234,18 @@ fn replica_of(
     }
 }
 
-fn replica_named(word: &str, size: Size) -> Option<ReplicaId> {
+/// The replica of such a cluster that the word spells.
+fn replica_named(word: &str, size: Size) -> Option<ReplicaId>
+    ensures { result ≡ replica_of (count_of size) word.now }
+{
     let index = number_in(word.as_bytes(), 0, u64::from(size.count() - 1))?;
     ReplicaId::new(index as u8).ok()
 }
 
 /// Which numbers the replicas of a cluster have.
-fn numbers_below(size: Size) -> &'static str {
+fn numbers_below(size: Size) -> &'static str
+    ensures { result.now ≡ numbers_text size }
+{
     match size.count() {
         3 => ": it takes a number from 0 to 2",
         5 => ": it takes a number from 0 to 4",

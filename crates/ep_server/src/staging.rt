@@ -1,9 +1,13 @@
 //! Which generation is opened, and with what.
 
-ghost use Rattle.std.specs.Prelude.{◌≡◌, IfOk};
+ghost use Rattle.std.specs.Prelude.{◌≡◌, ◌↔◌, cond, IfErr, IfOk, IsOk};
 ghost use Rattle.ep_assemble.specs.Firsts.{first_file};
+ghost use Rattle.ep_base.specs.Quorums.{size as count_of};
+ghost use Rattle.ep_folder.specs.declared.wish.Wish.TheVariants as wish;
+ghost use Rattle.ep_node.specs.declared.begin.Begin.TheVariants.{New};
 ghost use Rattle.ep_opening.specs.Bytes.{file_digest, opening_bytes};
 ghost use Rattle.ep_server.specs.Replays.{HasOpened};
+ghost use Rattle.ep_server.specs.declared.folder_fault.FolderFault.TheVariants.{OtherSize};
 
 use crate::asks::Asks;
 use crate::folder_fault::FolderFault;
@@ -220,7 +224,9 @@ fn placed<R: Files<File = File> + AllocGlobal>(
 }
 
 /// What is asked for with an opening that is handed over.
-fn wish_of(file: &SpelledFile, is_new: bool, is_same: bool) -> Wish {
+fn wish_of(file: &SpelledFile, is_new: bool, is_same: bool) -> Wish
+    ensures { result ≡ cond is_new (wish.New is_same) (wish.Take file.now.generation is_same) }
+{
     if is_new {
         Wish::New { is_same }
     } else {
@@ -287,7 +293,11 @@ pub(crate) fn first_stage<R: Files<File = File> + AllocGlobal>(
 }
 
 /// Whether the opening is for a cluster of this size, where its log is begun: it can't be closed then.
-pub(crate) fn check_stage(size: Size, stage: &GenerationStart) -> Result<(), FolderFault> {
+pub(crate) fn check_stage(size: Size, stage: &GenerationStart) -> Result<(), FolderFault>
+    ensures ok { IsOk result ↔ (stage.now.begin ≡ New → stage.now.named.file.faults ≡ size) }
+    ensures err { let file = stage.now.named.file in
+        IfErr result (λ fault. fault ≡ OtherSize file.generation (count_of file.faults)) }
+{
     let file = &stage.named.file;
     let found = file.size();
     if stage.begin == Begin::New && found != size {
