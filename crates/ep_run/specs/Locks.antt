@@ -3,6 +3,11 @@ use Rattle.std.specs.Prelude.{◌≡◌, ℕ}
 use Rattle.ep_base.specs.declared.version.Version.{Version}
 use Rattle.ep_journal.specs.Entries.{Collected}
 use Rattle.ep_journal.specs.Openings.{Opening}
+use Rattle.ep_journal.specs.declared.refusal.Refusal.{Refusal}
+use Rattle.ep_journal.specs.declared.refusal.Refusal.TheVariants.{Step}
+use Rattle.ep_journal.specs.declared.step_fault.StepFault.TheVariants as step
+use Rattle.ep_threads.specs.declared.host_fault.HostFault.{HostFault}
+use Rattle.ep_threads.specs.declared.host_fault.HostFault.TheVariants.{Memory, OutOfRange, Replica}
 use Rattle.ep_replay.specs.Heads.{opening_of}
 use Rattle.ep_script.specs.Heads.{Head}
 
@@ -17,3 +22,9 @@ pub record IsOfHost (cluster : ℕ) (version : Version) (opening : Opening) (c :
   pub faults : c.faults ≡ cluster
   pub version_is : c.version ≡ version
   pub opening_is : c.opening ≡ opening
+
+-- why a host did not do what a line asked for, as a report names it: the replica's reason, or the host's own
+abbrev pub cause_of : HostFault → Refusal
+cause_of Memory = Step step.Memory
+cause_of OutOfRange = Step step.OutOfRange
+cause_of (Replica fault) = Step fault

@@ -1,5 +1,6 @@
 -- How a run over rings gets on.
-use Rattle.std.specs.Prelude.{◌≡◌, ℕ, ◌<◌, ◌≤◌, eqb, cond, List, [], ◌∷◌, ◌++◌, length, drop, Option, Some, None, slice_index_or as get_or}
+use Rattle.std.specs.Prelude.{◌≡◌, ℕ, ◌<◌, ◌≤◌, eqb, cond, List, [], ◌∷◌, ◌++◌, length, drop, Option, Some, None, slice_index_or as get_or, min, ◌-◌, ◌^◌}
+use Rattle.std.specs.List.{sum_by}
 use Rattle.ep_threads.specs.Follows.{Follows, Settles}
 use Rattle.ep_threads.specs.Host.{IsHost, StartsAs}
 use Rattle.ep_threads.specs.Node.{Node}
@@ -102,6 +103,10 @@ pub record Collects (more : List Receipt) (nodes : List Node) (clients : Clients
   pub is : receipts' ≡ receipts ++ more
   pub own : AreOf nodes more
   pub counted : (ps : List ℕ) → AreCounted clients ps receipts → AreCounted clients' ps receipts'
+
+-- how many frames the nodes have lost, all together, up to 2^64 - 1
+abbrev pub lost_in : List Node → ℕ
+lost_in nodes = min (sum_by (λ (n : Node). n.lost) nodes) (2 ^ 64 - 1)
 
 -- a node has used up these tasks, and these are left
 pub record HasUsed (used : List Use) (left : List Task) (n : Node) : Type 0 where

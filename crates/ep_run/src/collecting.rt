@@ -1,6 +1,6 @@
 //! Up to which entries receipts were collected.
 
-ghost use Rattle.std.specs.Prelude.{◌≡◌, IfOk, length};
+ghost use Rattle.std.specs.Prelude.{◌≡◌, ◌-◌, IfOk, length, map, replicate, slice_index_or};
 ghost use Rattle.ep_run.specs.Rings.{entry_counts};
 
 use ep_rules::Receipt;
@@ -8,7 +8,9 @@ use ep_threads::RingNode;
 use std::alloc::{AllocError, Global};
 
 /// No entry of any of so many replicas.
-pub(crate) fn none_collected(alloc: Global, count: usize) -> Result<Vec<u32>, AllocError> {
+pub(crate) fn none_collected(alloc: Global, count: usize) -> Result<Vec<u32>, AllocError>
+    ensures { IfOk result (λ collected. collected.items ≡ replicate count 0) }
+{
     let mut collected = Vec::new(alloc);
     for _ in 0..count {
         collected.push(0)?;
@@ -17,7 +19,9 @@ pub(crate) fn none_collected(alloc: Global, count: usize) -> Result<Vec<u32>, Al
 }
 
 /// The last entry that gave one of the receipts, or this one where there are none.
-pub(crate) fn last_entry(receipts: &[Receipt], before: u32) -> u32 {
+pub(crate) fn last_entry(receipts: &[Receipt], before: u32) -> u32
+    ensures { result ≡ slice_index_or (map (λ r. r.entry) receipts.now) (length receipts.now - 1) before }
+{
     match receipts.last() {
         None => before,
         Some(receipt) => receipt.entry,

@@ -1,5 +1,9 @@
 //! A replica's two threads.
 
+ghost use Rattle.std.specs.Prelude.{◌≡◌, IfOk, map};
+ghost use Rattle.std.specs.List.{range_with_len};
+ghost use Rattle.ep_base.specs.Quorums.{size};
+
 use crate::run_fault::RunFault;
 use crate::submission::Submission;
 use ep_base::{ReplicaId, Size};
@@ -19,7 +23,11 @@ struct Lane {
 }
 
 impl Lane {
-    fn new(replica: ReplicaId) -> Lane {
+    ghost use Rattle.std.specs.Prelude.{◌≡◌};
+
+    fn new(replica: ReplicaId) -> Lane
+        ensures { result.replica ≡ replica }
+    {
         Lane {
             replica,
             has_submitted: AtomicBool::new(false),
@@ -57,7 +65,9 @@ impl Lane {
 }
 
 /// A lane for each replica of a cluster of this size.
-fn lanes(alloc: Global, cluster: Size) -> Result<Vec<Lane>, AllocError> {
+fn lanes(alloc: Global, cluster: Size) -> Result<Vec<Lane>, AllocError>
+    ensures { IfOk result (λ lanes. map (λ l. l.replica) lanes.items ≡ range_with_len 0 (size cluster)) }
+{
     let mut lanes = Vec::new(alloc);
     for index in 0..cluster.count() {
         let replica = ReplicaId::new(index).unwrap();

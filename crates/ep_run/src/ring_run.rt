@@ -8,7 +8,7 @@ ghost use Rattle.ep_rules.specs.declared.receipt.Receipt.{Receipt as Reported};
 ghost use Rattle.ep_script.specs.Fits.{FitsCluster, FitsSection};
 ghost use Rattle.ep_script.specs.declared.agenda_line.AgendaLine.{AgendaLine as Line};
 ghost use Rattle.ep_run.specs.Asking.{asked_by as asks_of, asked_of, proposers_after, proposers_of};
-ghost use Rattle.ep_run.specs.Rings.{AreAssigned, Begins, SettlesReleased, Turns};
+ghost use Rattle.ep_run.specs.Rings.{AreAssigned, Begins, SettlesReleased, Turns, lost_in};
 ghost use Rattle.ep_threads.specs.Host.{IsFresh, StartsAs};
 ghost use Rattle.ep_replay.specs.Heads.{opening_of};
 ghost use Rattle.ep_run.specs.Lines.{AreDone};
@@ -319,7 +319,9 @@ impl RingRun {
 }
 
 /// How many frames the nodes have lost, up to 2^64 - 1.
-fn lost_of(nodes: &[RingNode]) -> u64 {
+fn lost_of(nodes: &[RingNode]) -> u64
+    ensures { result ≡ lost_in nodes.now }
+{
     nodes
         .iter()
         .fold(0, |lost: u64, node| lost.saturating_add(node.lost()))

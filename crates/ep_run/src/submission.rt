@@ -1,5 +1,8 @@
 //! What a line of a section has its replica do, as it is submitted to a host behind locks.
 
+ghost use Rattle.std.specs.Prelude.{◌≡◌};
+ghost use Rattle.ep_run.specs.Locks.{cause_of as named};
+
 use crate::asking::asked_by;
 use ep_base::ReplicaId;
 use ep_journal::{Refusal, StepFault};
@@ -96,7 +99,9 @@ impl Submission {
 }
 
 /// The cause as a report names it.
-fn cause_of(fault: HostFault) -> Refusal {
+fn cause_of(fault: HostFault) -> Refusal
+    ensures { result ≡ named fault }
+{
     match fault {
         HostFault::Memory => Refusal::Step(StepFault::Memory),
         HostFault::OutOfRange => Refusal::Step(StepFault::OutOfRange),
