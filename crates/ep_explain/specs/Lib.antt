@@ -4,3 +4,8 @@ pub mod Kept
 pub mod Magic
 pub mod Reasons
 pub mod Advice
+pub mod Guess
+pub mod Fields
+pub mod OtherInput
+pub mod Steps
+pub mod Claims

@@ -3,6 +3,7 @@
 ghost use Rattle.std.specs.Prelude.{◌≡◌, option_copied};
 ghost use Rattle.ep_journal.specs.Entries.{AreJournals};
 ghost use Rattle.ep_audit.specs.Lookups.{proposal_in};
+ghost use Rattle.ep_explain.specs.Claims.{answer_in, has_seen, numbered, proposal_of};
 
 use crate::handled::{add_clock, entry_line};
 use crate::reasons::Reasons;
@@ -44,7 +45,9 @@ pub(crate) fn add_misordered(
 }
 
 /// The receipt at this place, counted from 1.
-fn receipt_at(receipts: &[Receipt], place: usize) -> Option<&Receipt> {
+fn receipt_at(receipts: &[Receipt], place: usize) -> Option<&Receipt>
+    ensures { option_copied result ≡ numbered receipts.now place }
+{
     receipts.get(place.wrapping_sub(1))
 }
 
@@ -85,6 +88,7 @@ fn proposal_in(entries: &[Entry], instance: InstanceId) -> Option<&Entry>
 /// What proposes the receipt's instance, in its leader's journal.
 fn proposal_of<'a>(journals: &'a Journals, receipt: &Receipt) -> Option<&'a Entry>
     requires { AreJournals journals.now }
+    ensures { option_copied result ≡ proposal_of journals.now receipt.now.instance }
 {
     let instance = receipt.instance;
     proposal_in(entries_of(journals, instance.replica()), instance)
@@ -161,7 +165,9 @@ fn add_found_execution(receipt: &Receipt, entry: &Entry, reasons: &mut Reasons) 
 }
 
 /// What was answered for the instance.
-fn answer_in(done: &[(InstanceId, Answer)], instance: InstanceId) -> Option<&Answer> {
+fn answer_in(done: &[(InstanceId, Answer)], instance: InstanceId) -> Option<&Answer>
+    ensures { option_copied result ≡ answer_in done.now instance }
+{
     for (other, answer) in done {
         if *other == instance {
             return Some(answer);
@@ -217,7 +223,9 @@ fn add_order(receipt: &Receipt, proposal: Option<&Entry>, reasons: &mut Reasons)
 }
 
 /// Whether the event is a proposal with this seen stamp.
-fn has_seen(event: &Event, stamp: u64) -> bool {
+fn has_seen(event: &Event, stamp: u64) -> bool
+    ensures { result ≡ has_seen event.now stamp }
+{
     match event {
         Event::Propose { seen, .. } => *seen == stamp,
         _ => false,

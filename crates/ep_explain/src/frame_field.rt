@@ -1,5 +1,8 @@
 //! The fields of frames in words.
 
+ghost use Rattle.std.specs.Prelude.{◌≡◌};
+ghost use Rattle.ep_explain.specs.Fields.{instance_named};
+
 use crate::numbers::number_of;
 use crate::wording::Wording;
 use ep_base::{InstanceId, ReplicaId};
@@ -77,7 +80,9 @@ fn say_kind(line: &mut Wording, code: u64) {
 }
 
 /// The instance that these bytes name.
-fn instance_of(bytes: &[u8]) -> Option<InstanceId> {
+fn instance_of(bytes: &[u8]) -> Option<InstanceId>
+    ensures { result ≡ instance_named bytes.now }
+{
     let [replica, high, low] = bytes else {
         return None;
     };

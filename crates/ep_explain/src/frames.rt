@@ -1,5 +1,8 @@
 //! Frames in words, and how two of them differ.
 
+ghost use Rattle.std.specs.Prelude.{◌≡◌, nat_eq};
+ghost use Rattle.std.specs.List.{common_prefix_len};
+
 use crate::frame_field::{say_value, words_of};
 use crate::reasons::Reasons;
 use crate::side::Side;
@@ -41,7 +44,9 @@ pub(crate) fn say_fault(line: &mut Wording, bytes: &[u8], fault: FrameFault) {
 }
 
 /// The first place at which the two differ; the length of the shorter one, where it is how the other one begins.
-fn first_difference(one: &[u8], other: &[u8]) -> usize {
+fn first_difference(one: &[u8], other: &[u8]) -> usize
+    ensures { result ≡ common_prefix_len nat_eq one.now other.now }
+{
     let common = one.len().min(other.len());
     for place in 0..common {
         if one[place] != other[place] {

@@ -1,6 +1,10 @@
 //! What bytes are, by the first of them.
 
 ghost use Rattle.std.specs.Prelude.{◌≡◌, ◌↔◌, ℕ, true, false, IfSome, IsTrue};
+ghost use Rattle.std.specs.Char.{eq_ignore_ascii_case};
+ghost use Rattle.std.specs.List.{common_prefix_len, list_all};
+ghost use Rattle.ep_explain.specs.Guess.{IsNearlyReplicas, IsText};
+ghost use Rattle.ep_explain.specs.Guess.{end_of, is_printed, is_text_byte, is_utf16, without_mark};
 ghost use Rattle.ep_explain.specs.Magic.{MayBegin};
 
 use crate::subcommand::Subcommand;
@@ -25,7 +29,9 @@ enum Hint {
     Skipped,
 }
 
-fn is_text_byte(byte: u8) -> bool {
+fn is_text_byte(byte: u8) -> bool
+    ensures { result ≡ is_text_byte byte }
+{
     byte >= b' ' && byte != 0x7f || byte == b'\t' || byte == b'\r' || byte == b'\n'
 }
 
@@ -47,8 +53,16 @@ fn begins_bundle(bytes: &[u8]) -> bool
 }
 
 /// Whether there are bytes, and the first ones are text: not the magic of a bundle, nor control characters.
-pub(crate) fn is_text(bytes: &[u8]) -> bool {
-    !begins_bundle(bytes) && bytes.iter().take(SEEN).all(|byte| is_text_byte(*byte))
+pub(crate) fn is_text(bytes: &[u8]) -> bool
+    ensures { IsTrue result ↔ IsText bytes.now }
+{
+    !begins_bundle(bytes) && are_text(bytes.get(..SEEN).unwrap_or(bytes))
+}
+
+fn are_text(bytes: &[u8]) -> bool
+    ensures { result ≡ list_all is_text_byte bytes.now }
+{
+    bytes.iter().all(|byte| is_text_byte(*byte))
 }
 
 fn hint_of(word: &[u8]) -> Hint {
@@ -67,7 +81,9 @@ fn hint_of(word: &[u8]) -> Hint {
 pub(crate) const ORDER_MARK: &[u8] = b"\xef\xbb\xbf";
 
 /// Whether the bytes are text in UTF-16: they begin with its byte order mark, or each other byte of the first ones is 0.
-pub(crate) fn is_utf16(bytes: &[u8]) -> bool {
+pub(crate) fn is_utf16(bytes: &[u8]) -> bool
+    ensures { result ≡ is_utf16 bytes.now }
+{
     match bytes {
         [0xff, 0xfe, ..] | [0xfe, 0xff, ..] => true,
         [0, first, 0, second, ..] => is_printed(*first) && is_printed(*second),
@@ -76,12 +92,16 @@ pub(crate) fn is_utf16(bytes: &[u8]) -> bool {
     }
 }
 
-fn is_printed(byte: u8) -> bool {
+fn is_printed(byte: u8) -> bool
+    ensures { result ≡ is_printed byte }
+{
     byte > b' ' && byte < 0x7f
 }
 
 /// How many of the bytes are the same from the front on, in whatever case.
-fn same_front(one: &[u8], other: &[u8]) -> usize {
+fn same_front(one: &[u8], other: &[u8]) -> usize
+    ensures { result ≡ common_prefix_len eq_ignore_ascii_case one.now other.now }
+{
     for (place, byte) in one.iter().enumerate() {
         match other.get(place) {
             Some(wanted) if byte.eq_ignore_ascii_case(wanted) => {}
@@ -92,14 +112,18 @@ fn same_front(one: &[u8], other: &[u8]) -> usize {
 }
 
 /// The last bytes, as many as that.
-fn end_of(bytes: &[u8], count: usize) -> &[u8] {
+fn end_of(bytes: &[u8], count: usize) -> &[u8]
+    ensures { result.now ≡ end_of bytes.now count }
+{
     bytes
         .get(bytes.len().saturating_sub(count)..)
         .unwrap_or(&[])
 }
 
 /// Whether the word is `replicas` but for a byte order mark, the case of its letters, and one letter that is more, less or another.
-fn is_nearly_replicas(word: &[u8]) -> bool {
+fn is_nearly_replicas(word: &[u8]) -> bool
+    ensures { IsTrue result ↔ IsNearlyReplicas word.now }
+{
     let word = without_mark(word);
     let wanted = b"replicas".as_slice();
     if word.len() < 7 || word.len() > 9 {
@@ -111,7 +135,9 @@ fn is_nearly_replicas(word: &[u8]) -> bool {
 }
 
 /// The bytes behind a byte order mark, if they begin with one.
-pub(crate) fn without_mark(bytes: &[u8]) -> &[u8] {
+pub(crate) fn without_mark(bytes: &[u8]) -> &[u8]
+    ensures { result.now ≡ without_mark bytes.now }
+{
     bytes.strip_prefix(ORDER_MARK).unwrap_or(bytes)
 }
 

@@ -1,5 +1,8 @@
 //! What is given for a bundle, and is none.
 
+ghost use Rattle.std.specs.Prelude.{◌≡◌, ◌==◌, ◌↔◌, IsTrue, position};
+ghost use Rattle.ep_explain.specs.OtherInput.{IsOtherInput, behind_edition};
+
 use crate::guess::{is_text, is_utf16};
 use crate::reasons::Reasons;
 
@@ -19,7 +22,9 @@ const SORTS: [(&[u8], &[u8]); 5] = [
 ];
 
 /// Adds what the bytes are, where they are no bundle's at all; else false.
-pub(crate) fn add_other_input(bytes: &[u8], reasons: &mut Reasons) -> bool {
+pub(crate) fn add_other_input(bytes: &[u8], reasons: &mut Reasons) -> bool
+    ensures { IsTrue result ↔ IsOtherInput bytes.now }
+{
     if bytes.is_empty() {
         add_other(b"found: nothing, as the input is empty", reasons);
     } else if is_utf16(bytes) {
@@ -33,14 +38,23 @@ pub(crate) fn add_other_input(bytes: &[u8], reasons: &mut Reasons) -> bool {
 }
 
 /// What stands behind the line of an edition, if the text begins by one.
-fn behind_edition(bytes: &[u8]) -> &[u8] {
+fn behind_edition(bytes: &[u8]) -> &[u8]
+    ensures { result.now ≡ behind_edition bytes.now }
+{
     if !bytes.starts_with(b"version ") {
         return bytes;
     }
-    match bytes.iter().position(|byte| *byte == b'\n') {
+    match end_of_line(bytes) {
         Some(place) => bytes.get(place.saturating_add(1)..).unwrap_or(bytes),
         None => bytes,
     }
+}
+
+/// Where the first line feed stands.
+fn end_of_line(bytes: &[u8]) -> Option<usize>
+    ensures { result ≡ position (λ b. b == 10) bytes.now }
+{
+    bytes.iter().position(|byte| *byte == b'\n')
 }
 
 /// What the text is that was given for a bundle.

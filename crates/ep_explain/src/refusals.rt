@@ -1,5 +1,8 @@
 //! Why a line of a script is refused, in words.
 
+ghost use Rattle.std.specs.Prelude.{◌≡◌, ◌<◌, slice_index};
+ghost use Rattle.std.specs.Char.{digit_char};
+
 use crate::guess::ORDER_MARK;
 use crate::reasons::Reasons;
 use crate::wording::Wording;
@@ -65,7 +68,9 @@ fn say_digits(line: &mut Wording, byte: u8) {
     line.say(&[digit(byte / 16), digit(byte % 16)]);
 }
 
-fn digit(value: u8) -> u8 {
+fn digit(value: u8) -> u8
+    ensures { value < 16 → result ≡ digit_char value }
+{
     match value {
         0..=9 => b'0' + value,
         10..=15 => b'a' + (value - 10),
@@ -293,7 +298,9 @@ fn same(refusal: &Refusal<'_>) -> &'static [u8] {
     }
 }
 
-fn byte_at(word: &[u8], place: usize) -> u8 {
+fn byte_at(word: &[u8], place: usize) -> u8
+    ensures { result ≡ slice_index word.now place }
+{
     match word.get(place) {
         Some(byte) => *byte,
         None => 0,

@@ -1,7 +1,10 @@
 //! What is wrong with an entry as its journal's next step.
 
-ghost use Rattle.std.specs.Prelude.{IfSome};
+ghost use Rattle.std.specs.Prelude.{◌≡◌, ◌↔◌, IfSome, IsNone, IsTrue, option_copied};
+ghost use Rattle.std.specs.List.{common_prefix_len};
+ghost use Rattle.std.specs.Str.{bytes_eq};
 ghost use Rattle.ep_journal.specs.Leaving.{MarksNext};
+ghost use Rattle.ep_explain.specs.Steps.{same_execution, same_frame};
 
 use crate::frames::{add_difference, say_bytes, say_fault};
 use crate::reasons::Reasons;
@@ -172,7 +175,10 @@ fn add_differences(
 }
 
 /// The first place at which the frames differ.
-fn first_other_frame(expected: &[Frame], found: &[Bytes]) -> Option<usize> {
+fn first_other_frame(expected: &[Frame], found: &[Bytes]) -> Option<usize>
+    ensures none { IsNone result ↔ (expected.now ≡ found.now) }
+    ensures place { IfSome result (λ place. place ≡ common_prefix_len bytes_eq expected.now found.now) }
+{
     for place in 0..expected.len().max(found.len()) {
         if !has_frame(expected.get(place), found.get(place)) {
             return Some(place);
@@ -182,7 +188,9 @@ fn first_other_frame(expected: &[Frame], found: &[Bytes]) -> Option<usize> {
 }
 
 /// Whether both are the same frame.
-fn has_frame(expected: Option<&Frame>, found: Option<&Bytes>) -> bool {
+fn has_frame(expected: Option<&Frame>, found: Option<&Bytes>) -> bool
+    ensures { result ≡ same_frame (option_copied expected.entry) (option_copied found.entry) }
+{
     match (expected, found) {
         (Some(expected), Some(found)) => expected.as_slice() == found.as_slice(),
         _ => false,
@@ -254,10 +262,9 @@ fn add_executions(
 }
 
 /// The first place at which the executions differ.
-fn first_other_execution(
-    expected: &[(InstanceId, Answer)],
-    found: &[(InstanceId, Answer)],
-) -> usize {
+fn first_other_execution(expected: &[(InstanceId, Answer)], found: &[(InstanceId, Answer)]) -> usize
+    ensures { result ≡ common_prefix_len same_execution expected.now found.now }
+{
     let common = expected.len().min(found.len());
     for place in 0..common {
         if !is_same_execution(&expected[place], &found[place]) {
@@ -267,7 +274,10 @@ fn first_other_execution(
     common
 }
 
-fn is_same_execution(one: &(InstanceId, Answer), other: &(InstanceId, Answer)) -> bool {
+fn is_same_execution(one: &(InstanceId, Answer), other: &(InstanceId, Answer)) -> bool
+    ensures test { result ≡ same_execution one.now other.now }
+    ensures same { IsTrue result ↔ (one.now ≡ other.now) }
+{
     one.0 == other.0 && one.1.is_same(&other.1)
 }
 

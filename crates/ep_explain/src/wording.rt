@@ -1,6 +1,6 @@
 //! Words of a line, as they are reported.
 
-ghost use Rattle.std.specs.Prelude.{◌≡◌, IfOk};
+ghost use Rattle.std.specs.Prelude.{◌≡◌, [], IfOk};
 
 use ep_base::{Answer, InstanceId};
 use ep_frame::Frame;
@@ -28,7 +28,9 @@ impl Model for Wording {
 
 impl Wording {
     /// No words yet.
-    pub(crate) fn new(alloc: Global) -> Wording {
+    pub(crate) fn new(alloc: Global) -> Wording
+        ensures { result ≡ [] }
+    {
         Wording {
             words: Vec::new(alloc),
             is_cut: false,
@@ -46,7 +48,9 @@ impl Wording {
     }
 
     /// Notes whether memory was refused.
-    pub(crate) fn note(&mut self, reported: Result<(), AllocError>) {
+    pub(crate) fn note(&mut self, reported: Result<(), AllocError>)
+        ensures { self.new ≡ self.old }
+    {
         if reported.is_err() {
             self.is_cut = true;
         }
