@@ -1,6 +1,7 @@
 //! Three replicas, and the frames on their way between them.
 
 ghost use Rattle.std.specs.Prelude.{◌≡◌, IfOk};
+ghost use Rattle.ep_example.specs.Clusters.{last_named};
 ghost use Rattle.ep_frame.specs.Meaning.{origin_at};
 
 use crate::example_fault::ExampleFault;
@@ -149,7 +150,9 @@ fn carried(frame: &Frame) -> Result<(ReplicaId, Bytes), AllocError>
 }
 
 /// The instance that the replica's last entry, a proposal, is about: each of its frames names it.
-fn last_proposed(replica: &Replica) -> Option<InstanceId> {
+fn last_proposed(replica: &Replica) -> Option<InstanceId>
+    ensures { result ≡ last_named replica.now.entries }
+{
     let entry = replica.journal().entries().last()?;
     let frame = entry.frames.as_slice().first()?;
     Some(frame.instance())

@@ -1,6 +1,9 @@
 //! A worked example: three replicas in one program, over a transport that is a queue of frames. docs/EMBEDDING.md goes through it.
 #![tactic(auto)]
 
+ghost use Rattle.std.specs.Prelude.{◌≡◌, None};
+ghost use Rattle.ep_journal.specs.declared.event.Event.TheVariants.{Propose};
+
 mod cluster;
 mod example_fault;
 mod reporting;
@@ -48,7 +51,9 @@ fn play(rt: &impl Print, alloc: Global, cluster: &mut Cluster) -> Result<(), Exa
 }
 
 /// A request of client 1.
-fn request(number: u32, command: Command, seen: u64) -> Event {
+fn request(number: u32, command: Command, seen: u64) -> Event
+    ensures { result ≡ Propose 1 number command seen None }
+{
     Event::Propose {
         client: 1,
         request: number,

@@ -1,5 +1,8 @@
 //! What the example prints.
 
+ghost use Rattle.std.specs.Prelude.{◌≡◌};
+ghost use Rattle.ep_example.specs.Answers.{answer_text};
+
 use crate::example_fault::ExampleFault;
 use ep_base::{Answer, Reply};
 use ep_rules::Receipt;
@@ -22,7 +25,10 @@ pub(crate) fn print_receipt(rt: &impl Print, receipt: Receipt) -> Result<u64, Ex
 }
 
 /// An answer in words; of what the key had before, its value, where that is text.
-fn words_of(answer: &Answer) -> &str {
+#[tactic(auto, using(crate::proofs::Texts::text_is, crate::proofs::Texts::text_isnt))]
+fn words_of(answer: &Answer) -> &str
+    ensures { result.now ≡ answer_text answer.now }
+{
     match answer {
         Answer::Lost => "lost to a no-op",
         Answer::Replied(Reply::Absent) => "absent",
