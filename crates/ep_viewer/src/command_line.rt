@@ -1,5 +1,11 @@
 //! The words of the command line.
 
+ghost use Rattle.std.specs.Prelude.{◌≡◌, IfErr, IfOk};
+ghost use Rattle.std.specs.List.{position};
+ghost use Rattle.ep_cli.specs.declared.words_fault.WordsFault.TheVariants.{Memory};
+ghost use Rattle.ep_script.specs.Grammar.{key_word, replica_of};
+ghost use Rattle.ep_viewer.specs.Spelled.{instance_word, is_dot};
+
 use crate::commands::program;
 use crate::view::View;
 use crate::viewer_asked::ViewerAsked;
@@ -7,7 +13,7 @@ use clap::error::ErrorKind;
 use clap::{ArgMatches, Error};
 use ep_base::{CommandFault, InstanceId, Key, ReplicaId};
 use ep_cli::WordsFault;
-use ep_script::{number_in, read_word};
+use ep_script::{long_number, number_in, read_word};
 use ep_view::Wanted;
 use std::alloc::Global;
 use std::convert::AsStr;
@@ -130,8 +136,11 @@ fn instance_of(alloc: Global, options: &ArgMatches<'_>) -> Result<Option<Instanc
 }
 
 /// The instance that a word spells: a replica, a dot and a number.
-fn instance_named(word: &[u8]) -> Option<InstanceId> {
-    let dot = word.iter().position(|byte| *byte == b'.')?;
+#[tactic(auto, using(crate::proofs::Dotted::dotted, crate::proofs::Dotted::undotted))]
+fn instance_named(word: &[u8]) -> Option<InstanceId>
+    ensures { result ≡ instance_word word.now }
+{
+    let dot = dot_in(word)?;
     let replica = replica_named(word.get(..dot)?)?;
     let number = number_in(
         word.get(dot + 1..)?,
@@ -141,7 +150,17 @@ fn instance_named(word: &[u8]) -> Option<InstanceId> {
     InstanceId::new(replica, number as u16).ok()
 }
 
-fn replica_named(word: &[u8]) -> Option<ReplicaId> {
+/// Where the first dot of a word is.
+fn dot_in(word: &[u8]) -> Option<usize>
+    ensures { result ≡ position is_dot word.now }
+{
+    word.iter().position(|byte| *byte == b'.')
+}
+
+/// The replica that a word spells.
+fn replica_named(word: &[u8]) -> Option<ReplicaId>
+    ensures { result ≡ replica_of 7 word.now }
+{
     let index = number_in(word, 0, 6)?;
     ReplicaId::new(index as u8).ok()
 }
@@ -162,7 +181,10 @@ fn key_of(alloc: Global, options: &ArgMatches<'_>) -> Result<Option<Key>, WordsF
 }
 
 /// The key that a word of bytes spells.
-fn key_named(alloc: Global, word: &[u8]) -> Result<Option<Key>, WordsFault> {
+fn key_named(alloc: Global, word: &[u8]) -> Result<Option<Key>, WordsFault>
+    ensures value { IfOk result (λ key. key ≡ key_word word.now) }
+    ensures memory { IfErr result (λ fault. fault ≡ Memory) }
+{
     let Some(bytes) = read_word(alloc, word)? else {
         return Ok(None);
     };
@@ -209,7 +231,7 @@ fn stamp_of(
     let Some(word) = options.get_str(name) else {
         return Ok(default);
     };
-    match stamp_named(word.as_bytes()) {
+    match long_number(word.as_bytes()) {
         Some(stamp) => Ok(stamp),
         None if name == "from" => Err(invalid(
             alloc,
@@ -222,15 +244,4 @@ fn stamp_of(
             "to <STAMP>': it takes a number of 1 to 15 digits",
         )),
     }
-}
-
-/// The stamp that a word of 1 to 15 decimal digits spells, of which the last 10 are a number of their own.
-fn stamp_named(word: &[u8]) -> Option<u64> {
-    if word.len() <= 10 {
-        return number_in(word, 0, 9_999_999_999);
-    }
-    let place = word.len() - 10;
-    let high = number_in(word.get(..place)?, 0, 99_999)?;
-    let low = number_in(word.get(place..)?, 0, 9_999_999_999)?;
-    Some(high * 10_000_000_000 + low)
 }
