@@ -66,7 +66,7 @@ guards (Guard wanted ∷ cs) = wanted ∷ guards cs
 guards (Reported ∷ cs) = guards cs
 guards (Write given ∷ cs) = guards cs
 
--- how often it is reported
+-- how often its value is asked for
 abbrev pub number_reported : List Clause → ℕ
 number_reported [] = 0
 number_reported (Guard wanted ∷ cs) = number_reported cs

@@ -18,7 +18,7 @@ is_item w = bytes_eq w (codes "if") || bytes_eq w (codes "get") || is_write w
 abbrev pub has_value : List ℕ → Bool
 has_value w = bytes_eq w (codes "if") || bytes_eq w (codes "put")
 
--- what items with these words say is of one kind: what a key has to have, that it is reported, or what it is given
+-- what items with these words say is of one kind: what a key has to have, that its value is asked for, or what it is given
 abbrev pub are_of_kind : List ℕ → List ℕ → Bool
 are_of_kind w v = if is_write w then is_write v else bytes_eq w v
 
@@ -43,9 +43,9 @@ items_behind p (w ∷ k ∷ v ∷ ws) =
 abbrev pub items_left : ItemWords → List (List ℕ × List ℕ × ℕ)
 items_left s = items_behind s.place (words_of s.rest.now)
 
--- the first of them was passed, or there is none
+-- the first of them was passed; or there is none, and none is left
 abbrev pub IsNextItem : ItemWords → ItemWords → Option ItemWord → Type 0
-IsNextItem s t None = items_left s ≡ []
+IsNextItem s t None = (items_left s ≡ []) × (items_left t ≡ [])
 IsNextItem s t (Some i) = items_left s ≡ (i.word.now, i.key.now, i.place) ∷ items_left t
 
 -- the first word was passed, or there is none, and nothing changed

@@ -1,11 +1,9 @@
 -- Which word of a refused line is at fault, and where a line may stand.
-use Rattle.std.specs.Prelude.{◌≡◌, ℕ, zero, suc, ◌==◌, ◌&&◌, ◌||◌, not, nat_le, Bool, true, false, List, [], ◌∷◌, ◌++◌, Option, Some, None, is_some, if◌then◌else◌, ◌⊎◌}
-use Rattle.std.specs.Borrow.{Bor}
+use Rattle.std.specs.Prelude.{◌≡◌, ℕ, zero, suc, ◌==◌, ◌&&◌, ◌||◌, not, nat_le, Bool, true, false, List, [], ◌∷◌, Option, Some, None, is_some, if◌then◌else◌}
 use Rattle.ep_base.specs.Versions.{version_number}
 use Rattle.ep_base.specs.declared.version.Version.{Version}
 use Rattle.ep_script.specs.Grammar.{faults_of}
 use Rattle.ep_script.specs.Operands.{range_of}
-use Rattle.ep_script.specs.Word.{spelled, between}
 use Rattle.ep_script.specs.declared.operand.Operand.{Operand}
 use Rattle.ep_script.specs.declared.operand.Operand.TheVariants as may
 use Rattle.ep_script.specs.declared.standing.Standing.{Standing}
@@ -18,11 +16,6 @@ abbrev pub word_behind : List ℕ → ℕ → List (List ℕ) → List ℕ
 word_behind w zero ws = w
 word_behind w (suc n) [] = []
 word_behind w (suc n) (v ∷ vs) = word_behind v n vs
-
--- the word begins with a byte, however it is spelled, and the rest follows it; or it is over, or spells none
-abbrev pub BeginsWithByte : List ℕ → Option (ℕ × Bor (List ℕ)) → Type 0
-BeginsWithByte w None = (done : List ℕ) → (w ≡ []) ⊎ (spelled between done w ≡ None)
-BeginsWithByte w (Some x) = (done : List ℕ) → spelled between done w ≡ spelled between (done ++ x.0 ∷ []) x.1.now
 
 -- what is wrong at this place of a word, from which on this is left
 abbrev pub fault_at : ℕ → List ℕ → Why

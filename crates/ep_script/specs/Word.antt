@@ -40,6 +40,17 @@ word_of (b ∷ bs) = byte_words (b ∷ bs)
 abbrev pub digits_byte : ℕ → ℕ → Option ℕ
 digits_byte high low = option_and_then (λ h. option_map (λ l. 16 * h + l) (digit_value low)) (digit_value high)
 
+-- the byte that a word begins with after a `%`, and what follows it; none where no byte is spelled there
+abbrev pub escaped_byte : List ℕ → Option (ℕ × List ℕ)
+escaped_byte [] = None
+escaped_byte (high ∷ []) = None
+escaped_byte (high ∷ low ∷ cs) = option_map (λ b. (b, cs)) (digits_byte high low)
+
+-- the byte that a word begins with, and what follows it; none where no byte is spelled there
+abbrev pub first_byte : List ℕ → Option (ℕ × List ℕ)
+first_byte [] = None
+first_byte (c ∷ cs) = if c == 37 then escaped_byte cs else if is_plain c then Some (c, cs) else None
+
 -- where in a word a reader is
 pub data Place : Type 0 where
   between : Place
@@ -60,6 +71,10 @@ spelled after_sign done (high ∷ low ∷ cs) = option_and_then (λ b. spelled b
 abbrev pub bytes_of : List ℕ → Option (List ℕ)
 bytes_of [] = None
 bytes_of (c ∷ cs) = if bytes_eq (c ∷ cs) (codes "%-") then Some [] else spelled between [] (c ∷ cs)
+
+-- this byte and what follows it, as they were read; or none
+abbrev pub lent_byte : Option (ℕ × Bor (List ℕ)) → Option (ℕ × List ℕ)
+lent_byte = option_map (λ x. (x.0, x.1.now))
 
 -- the rest of a word after a `%` spells no byte, or spells one and goes on
 abbrev pub Escapes : List ℕ → Option (ℕ × Bor (List ℕ)) → Type 0

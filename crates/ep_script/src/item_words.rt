@@ -54,7 +54,7 @@ impl<'a> ItemWords<'a> {
 }
 
 impl<'a> ItemWord<'a> {
-    /// Whether an item that begins with this word says something of the kind: what a key has to have, that it is reported, or what it is given.
+    /// Whether an item that begins with this word says something of the kind: what a key has to have, that its value is asked for, or what it is given.
     pub(crate) fn is_kind(&self, word: &[u8]) -> bool
         ensures { result ≡ are_of_kind self.now.word.now word.now }
     {

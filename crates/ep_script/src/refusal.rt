@@ -3,7 +3,8 @@
 ghost use Rattle.std.specs.Prelude.{◌≡◌, ◌-◌, ◌<◌, [], length, is_some, ◌&&◌, IfSome};
 ghost use Rattle.std.specs.Str.{bytes_eq};
 ghost use Rattle.ep_script.specs.Parts.{words_of};
-ghost use Rattle.ep_script.specs.Refusals.{word_behind, BeginsWithByte, fault_at, is_in_range, may_stand, misplaced_at};
+ghost use Rattle.ep_script.specs.Refusals.{word_behind, fault_at, is_in_range, may_stand, misplaced_at};
+ghost use Rattle.ep_script.specs.Word.{first_byte, lent_byte};
 
 use crate::form::{COMMANDS, Form, LINES, form_of};
 use crate::item_words::{ItemWords, is_item};
@@ -49,7 +50,7 @@ pub struct Refusal<'a> {
     // what stands behind the word, and the word that another one has to differ from
     rest: &'a [u8],
     other: &'a [u8],
-    // the items of a command over many keys and the place of the word before them, and how many keys are reported, and named
+    // the items of a command over many keys and the place of the word before them, and of how many keys the value is asked for, and how many are named
     items: &'a [u8],
     items_place: u32,
     reported: usize,
@@ -467,7 +468,7 @@ fn begins(line: &[u8], word: &[u8]) -> bool
 
 /// The first byte that a word spells, and what follows it; none where it spells none.
 fn next_byte(word: &[u8]) -> Option<(u8, &[u8])>
-    ensures byte { BeginsWithByte word.now result }
+    ensures byte { lent_byte result ≡ first_byte word.now }
     ensures shorter { IfSome result (λ x. length x.1.now < length word.now) }
 {
     match word {

@@ -47,7 +47,7 @@ pub enum Why {
     SecondFrame(u32),
     /// An item says such a thing of the key already, by the word at this place.
     SecondItem(u32),
-    /// A command over many keys reports 16 of them at most.
+    /// A command over many keys asks for the values of 16 of them at most.
     Reported,
     /// Such a command names 1,024 keys at most.
     Keys,

@@ -2,7 +2,7 @@
 
 ghost use Rattle.std.specs.Prelude.{◌≡◌, ◌++◌, ◌<◌, [], Some, IfOk, IfSome, IsTrue, OnOk, MatchOption, length};
 ghost use Rattle.std.specs.List.{list_all};
-ghost use Rattle.ep_script.specs.Word.{is_plain, is_above_sign, digit_of, digit_value, digits_byte, byte_word, byte_words, word_of, spelled, between, bytes_of, Escapes, WordLaw};
+ghost use Rattle.ep_script.specs.Word.{is_plain, is_above_sign, digit_of, digit_value, digits_byte, byte_word, byte_words, word_of, spelled, between, bytes_of, escaped_byte, lent_byte, Escapes, WordLaw};
 
 use std::alloc::{AllocError, Global};
 
@@ -139,8 +139,10 @@ pub fn read_word(alloc: Global, word: &[u8]) -> Result<Option<Vec<u8>>, AllocErr
     unescape(alloc, word)
 }
 
+/// The byte that a word begins with after a `%`, and what follows it; none where no byte is spelled there.
 pub(crate) fn escaped(word: &[u8]) -> Option<(u8, &[u8])>
     ensures byte { Escapes word.now result }
+    ensures first { lent_byte result ≡ escaped_byte word.now }
     ensures shorter { IfSome result (λ x. length x.1.now < length word.now) }
 {
     let (high, after) = word.split_first()?;
