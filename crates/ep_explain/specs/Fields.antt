@@ -1,11 +1,7 @@
 -- Fields in bytes.
-use Rattle.std.specs.Prelude.{ℕ, ◌+◌, ◌*◌, List, [], ◌∷◌, Option, Some, None, fold, if◌then◌else◌}
+use Rattle.std.specs.Prelude.{ℕ, ◌+◌, ◌*◌, List, [], ◌∷◌, Option, Some, None, if◌then◌else◌}
 use Rattle.ep_base.specs.Instances.{instance_of}
 use Rattle.ep_frame.specs.Faults.{is_instance}
-
--- the number that the bytes spell, the highest first
-abbrev pub big_endian : List ℕ → ℕ
-big_endian bytes = fold (λ number byte. 256 * number + byte) 0 bytes
 
 abbrev pub if_instance : ℕ → Option ℕ
 if_instance i = if is_instance i then Some i else None
