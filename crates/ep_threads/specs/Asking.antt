@@ -1,4 +1,4 @@
--- What a call on a host reports. A lock hides which state a replica is in, so it is said of some replica's journal. The version and the opening are the host's.
+-- What a call on a host gives. A lock hides which state a replica is in, so it is said of some replica's journal. The version and the opening are the host's.
 use Rattle.std.specs.Prelude.{◌≡◌, ℕ, ◌<◌, ◌≤◌, Bool, true, false, List, Option, Some, IfSome}
 use Rattle.ep_base.specs.Instances.{leader_of}
 use Rattle.ep_base.specs.Quorums.{size}
@@ -73,7 +73,7 @@ IsRefused s f r event Memory = ⊥
 IsRefused s f r event OutOfRange = size f ≤ r
 IsRefused s f r event (Replica fault) = (r < size f) × IsDeclinedThere s event fault
 
--- why no receipts are reported: out of memory, or there is no such replica in the cluster
+-- why no receipts are given: out of memory, or there is no such replica in the cluster
 abbrev pub IsUnreported : ℕ → ℕ → HostFault → Type 0
 IsUnreported f r Memory = r < size f
 IsUnreported f r OutOfRange = size f ≤ r

@@ -47,7 +47,7 @@ pub record IsFresh (capacity : ℕ) (n : Node) : Type 0 where
   pub used : n.used ≡ 0
   pub lost : n.lost ≡ 0
 
--- What looks at both ends report.
+-- What looks at both ends say.
 
 -- a look leaves what was put, taken, held and counted
 pub record Quiet (a b : Link) : Type 0 where

@@ -1,13 +1,23 @@
 -- The weather: what is to become of which frames.
-use Rattle.std.specs.Prelude.{◌≡◌, ◌≢◌, ℕ, ◌<◌, ◌≤◌, ◌&&◌, eqb, cond, List, [], ◌∷◌, length, All, Option, Some, None, slice_index_or}
+use Rattle.std.specs.Prelude.{◌≡◌, ◌≢◌, ℕ, ◌<◌, ◌≤◌, ◌&&◌, Bool, true, false, eqb, cond, List, [], ◌∷◌, length, All, Option, Some, None, slice_index_or}
 use Rattle.ep_base.specs.Quorums.{size}
 use Rattle.ep_threads.specs.declared.weather.Weather.{Weather}
 use Rattle.ep_threads.specs.declared.weather_kind.WeatherKind.{WeatherKind}
+use Rattle.ep_threads.specs.declared.weather_kind.WeatherKind.TheVariants.{Drop, Hold, Repeat}
 
 -- what is to become of the frame for this peer that is counted as this one; none where the weather names no such frame
 abbrev pub kind_at : List Weather → ℕ → ℕ → Option WeatherKind
 kind_at [] peer count = None
 kind_at (w ∷ ws) peer count = cond (eqb w.to peer && eqb w.count count) (Some w.kind) (kind_at ws peer count)
+
+abbrev pub is_hold : WeatherKind → Bool
+is_hold Drop = false
+is_hold Hold = true
+is_hold Repeat = false
+
+-- it is a frame for the replica of this number, and to be held
+abbrev pub is_held_for : ℕ → Weather → Bool
+is_held_for to w = eqb w.to to && is_hold w.kind
 
 -- those of frames that this replica puts, in order
 abbrev pub own_of : ℕ → List Weather → List Weather

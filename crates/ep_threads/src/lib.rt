@@ -3,7 +3,7 @@
 //! In a `LockHost` the replicas stand behind locks, each with an inbox of frames. `submit` and `direct` ask a replica for an event, `pump`
 //! hands it a frame of its inbox and lets it execute, `outcome` and `receipts_after` say what came of it, and `finish` audits what
 //! the threads left. Start with specs/Tending.antt and `tending.rt`, which say exactly what one pump does to a replica, then
-//! specs/Asking.antt, which says what a call reports, and `lock_host.rt`.
+//! specs/Asking.antt, which says what a call gives, and `lock_host.rt`.
 //! A replica behind a lock is what its journal leaves, and starts as all of its host do, by its type (`HostReplica`, `Start`), whatever threads do. Its
 //! inboxes are as large as the type says (`HostSender`). An inbox holds frames of versions that replicas are of, by the type of its items, in one order (`ep_inbox`). No lock of a replica is held while frames are sent. Whether the journals fit
 //! together no lock knows: `finish` asks the audit. What a replica sends and receives by is a `Sender` behind a lock of its own: the weather of its

@@ -131,7 +131,7 @@ impl RingNode {
         self.lost
     }
 
-    /// The tasks that were refused, each with its place from 0 among all that were assigned, and why. A place past 4,294,967,295 is reported as that number.
+    /// The tasks that were refused, each with its place from 0 among all that were assigned, and why. A place past 4,294,967,295 is given as that number.
     pub fn refused(&self) -> &[(u32, StepFault)]
         ensures { result.now ≡ self.now.refused }
     {

@@ -1,23 +1,20 @@
 //! How the weather of a node is set, and how its held frames are let go.
 
+ghost use Rattle.std.specs.List.{count_by};
 ghost use Rattle.std.specs.Prelude.{◌≡◌, ◌≤◌, length, vec_capacity};
 ghost use Rattle.ep_threads.specs.Pointwise.{Each};
 ghost use Rattle.ep_threads.specs.Setting.{CountsAnew, ReleasesAll};
+ghost use Rattle.ep_threads.specs.Weathers.{is_held_for};
 
 use crate::link::Link;
 use crate::weather::Weather;
-use crate::weather_kind::WeatherKind;
 use std::alloc::AllocError;
 
 /// How many frames for the replica of this number are to be held.
-pub fn holds(weather: &[Weather], to: usize) -> usize {
-    let mut count = 0usize;
-    for it in weather {
-        if it.to.index() as usize == to && it.kind == WeatherKind::Hold {
-            count = count.saturating_add(1);
-        }
-    }
-    count
+pub fn holds(weather: &[Weather], to: usize) -> usize
+    ensures { result ≡ count_by (is_held_for to) weather.now }
+{
+    weather.iter().filter(|it| it.is_held_for(to)).count()
 }
 
 /// Makes the places for the frames that are to be held.

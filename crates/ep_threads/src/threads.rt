@@ -56,7 +56,7 @@ fn first_unended(nodes: &[RingNode]) -> Option<usize>
 }
 
 /// Gives each node of a host so many turns at most, in a thread of its own, or on this one where none can be started, until its agenda is empty and the
-/// gate lets it end. All nodes come back, in order. At an `Err` the node reported is the least that hadn't ended.
+/// gate lets it end. All nodes come back, in order. At an `Err` the node that is named is the least that hadn't ended.
 pub fn section<R: Threads + Sync, G: Gate>(
     rt: &R,
     mut nodes: Vec<RingNode>,

@@ -1,7 +1,7 @@
 //! What is to become of which frame.
 
 ghost use Rattle.std.specs.Prelude.{◌≡◌, ℕ, ◌<◌, length, slice_index_or, IsTrue, IsFalse, IfOk, All};
-ghost use Rattle.ep_threads.specs.Weathers.{kind_at, own_of, NameOne, IsFrameIn, IsWeather, IsWeatherAt};
+ghost use Rattle.ep_threads.specs.Weathers.{is_held_for, kind_at, own_of, NameOne, IsFrameIn, IsWeather, IsWeatherAt};
 ghost use Rattle.ep_threads.specs.declared.weather.Weather.{Weather as Named};
 
 use crate::weather_kind::WeatherKind;
@@ -15,6 +15,15 @@ pub struct Weather {
     pub to: ReplicaId,
     pub count: u32,
     pub kind: WeatherKind,
+}
+
+impl Weather {
+    /// Whether it is a frame for the replica of this number, and to be held.
+    pub fn is_held_for(&self, to: usize) -> bool
+        ensures { result ≡ is_held_for to self.now }
+    {
+        self.to.index() as usize == to && self.kind == WeatherKind::Hold
+    }
 }
 
 /// What is to become of the frame for this peer that is counted as this one.
