@@ -31,7 +31,7 @@ byte_at bytes place = get_or bytes place 0
 abbrev pub two_at : List ℕ → ℕ → ℕ
 two_at bytes place = 256 * byte_at bytes place + byte_at bytes (place + 1)
 
--- the length of a value that a receipt reports, behind the code of its answer
+-- the length of a value that a receipt has, behind the code of its answer
 abbrev pub reported_length : Version → List ℕ → ℕ
 reported_length V1 bytes = two_at bytes 33
 reported_length V2 bytes = two_at bytes 33

@@ -1,7 +1,7 @@
 //! What generation 1 opens with.
 
-ghost use Rattle.std.specs.Prelude.{◌≡◌, ℕ, IfOk};
-ghost use Rattle.ep_assemble.specs.Firsts.{first_file};
+ghost use Rattle.std.specs.Prelude.{◌≡◌, IfOk};
+ghost use Rattle.ep_assemble.specs.Firsts.{faults_in, first_file};
 ghost use Rattle.ep_opening.specs.Bytes.{opening_bytes};
 
 use ep_base::{Deps, Generation, Size};
@@ -25,7 +25,7 @@ pub fn first_file(alloc: Global, size: Size) -> Result<OpeningFile, AllocError>
 
 /// Its bytes, in the cluster of which this log is: a log names the digest of the file that it opened with.
 pub(crate) fn first_opening(alloc: Global, log: &[u8]) -> Result<Vec<u8>, AllocError>
-    ensures { IfOk result (λ bytes. (faults : ℕ) × (bytes.items ≡ opening_bytes (first_file faults))) }
+    ensures { IfOk result (λ bytes. bytes.items ≡ opening_bytes (first_file (faults_in log.now))) }
 {
     written(alloc, size_in(log))
 }
@@ -37,8 +37,10 @@ fn written(alloc: Global, size: Size) -> Result<Vec<u8>, AllocError>
     write_opening(alloc, &file)
 }
 
-/// The size of the log's cluster; any where the log has no header.
-fn size_in(log: &[u8]) -> Size {
+/// The size of the log's cluster, by its header; three replicas where it has none.
+fn size_in(log: &[u8]) -> Size
+    ensures { result ≡ faults_in log.now }
+{
     let count = log.get(COUNT_AT).copied().unwrap_or(3);
     match Size::new(count) {
         Ok(size) => size,

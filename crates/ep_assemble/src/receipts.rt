@@ -122,7 +122,7 @@ fn length_len(version: Version) -> usize
     }
 }
 
-/// The length of a value that a receipt reports, behind the code of its answer.
+/// The length of a value that a receipt has, behind the code of its answer.
 fn reported_len(version: Version, bytes: &[u8]) -> usize
     ensures { result ≡ reported_length version bytes.now }
 {
