@@ -617,7 +617,7 @@ uint8_t ep_propose_seal(struct ep_replica *replica, const struct ep_call *call, 
 
 /* ---- What happened to a replica ---- */
 
-/* A frame came from a peer: its bytes, as that one's `ep_answers` reported them. EP_NO_REPLICA, EP_LENT, EP_MEMORY;
+/* A frame came from a peer: its bytes, as that one's `ep_answers` gave them. EP_NO_REPLICA, EP_LENT, EP_MEMORY;
    EP_BAD_FRAME; EP_NOT_MINE; EP_OUT_OF_RANGE: a replica of which it speaks isn't of the cluster; EP_SEQ_EXHAUSTED;
    EP_STAMP_FULL. */
 uint8_t ep_handle(struct ep_replica *replica, const uint8_t *frame, size_t frame_len);

@@ -207,7 +207,7 @@ module _ {A : Type 0} where
   got xs k None some is = sym (none_at xs k (ltb-false k (length xs) (sym some)))
   got xs k (Some x) some is = sym (at_place xs k x.now (ltb-true k (length xs) (sym some)) is)
 
--- what is reported of two maps by their entries
+-- two maps beside each other, by their entries
 pub reported_of : (m n : Contents) (es os : List Pair) (p : ℕ) (a b : Option Pair) (r : Result (Option (List ℕ)) AllocError) →
     es ≡ entries m → os ≡ entries n → a ≡ slice_get es p → b ≡ slice_get os p → is_same_at (slice_get es p) (slice_get os p) ≡ false → difference (drop p es) (drop p os) ≡ difference es os →
     IfOk r (λ key. key ≡ lesser_key a b) → IfOk r (λ key. MatchOption key (m ≡ n) (λ k. IsLeastDifference m n k))

@@ -54,7 +54,7 @@ pub record IsOneHistory (base : Store) (f : ℕ) (journal : Journals) (receipts 
   pub callers :
       (t u : Receipt) → In t receipts → In u receipts → u.stamp ≤ t.seen → Has h t.instance → Has h u.instance → place h u.instance < place h t.instance
 
--- The journals of replicas that open with the map m have one closing, which the summary reports.
+-- The journals of replicas that open with the map m have one closing, which the summary has.
 pub record IsOneClosing (m : Contents) (f : ℕ) (journal : Journals) (v : Summary) : Type 0 where
   -- whose journal has executed a seal leaves the map that the summary's history leaves, closed by the summary's seal
   pub left : (r : ℕ) → is_closed (store_left m f journal r) ≡ true → store_left m f journal r ≡ record { contents = left_by (opened m) v.history.items; seal = option_map (λ c. c.value) v.closing }

@@ -11,7 +11,7 @@ use Rattle.ep_rules.specs.Journals.{Scheduled}
 use Rattle.ep_rules.specs.Steps.{order_of}
 use Rattle.ep_audit.specs.declared.happening.Happening.{Happening}
 
--- the reply that an answer reports; absent where the proposal was lost
+-- the reply that an answer has; absent where the proposal was lost
 abbrev pub reported_by : Answer → Reply
 reported_by Lost = Absent
 reported_by (Replied r) = r

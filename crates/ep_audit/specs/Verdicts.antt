@@ -42,7 +42,7 @@ pub record AnswersFirst (schedule : List Scheduled) (i : ℕ) (answer : Answer) 
   pub new : (a : Scheduled) → In a before → ¬ Has (order_of a.entry.done) i
   pub done : In (i, answer) first.entry.done
 
--- the history of a schedule: each command once, at its first execution, no-ops left out, with the reply that this reported; these are the replies of one map, from
+-- the history of a schedule: each command once, at its first execution, no-ops left out, with the reply that this gave; these are the replies of one map, from
 -- base on, where the journals match
 pub record IsHistory (base : Store) (f : ℕ) (journal : Journals) (schedule : List Scheduled) (lines : List Happening) : Type 0 where
   pub instances : instances_in lines ≡ history_of (command_at base f journal) schedule

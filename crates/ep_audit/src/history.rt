@@ -18,7 +18,7 @@ use ep_exec::Executed;
 use ep_journal::Journals;
 use std::alloc::{AllocError, Global};
 
-/// The reply that the answer reports; absent where the proposal was lost.
+/// The reply that the answer has; absent where the proposal was lost.
 fn reply_in(alloc: Global, answer: &Answer) -> Result<Reply, AllocError>
     ensures { IfOk result (λ r. r ≡ reported_by answer.now) }
 {

@@ -11,7 +11,7 @@
 //! receipts, and answers the first one that isn't as `IsAccepted` of `ep_rules`, specs/Audits.antt, asks. Frames and proposals are found by
 //! their places, so that an audit is one pass. `summary.rt` says what the journals say (specs/Verdicts.antt): it
 //! collects what is committed, merges the entries that execute something by stamp and replica, and takes each command at its first execution. `verdict.rt` adds the
-//! schedule: all entries, merged. That the replies reported are one map's is a law of `ep_rules` on journals
+//! schedule: all entries, merged. That the replies are one map's is a law of `ep_rules` on journals
 //! that match, and not work done here.
 //!
 //! The order of the checks is part of the contract: which fault is reported first. How things are found, merged and looked up isn't.

@@ -32,7 +32,7 @@ pub struct Verdict {
 impl Verdict {
     /// What the journals say; where several commit in an instance, what the least of these replicas commits.
     ///
-    /// Each reply is what the instance's first execution reported: one map's reply to the history, from the journals' opening on, where the journals match,
+    /// Each reply is what the instance's first execution gave: one map's reply to the history, from the journals' opening on, where the journals match,
     /// which an audit finds out.
     pub fn of(alloc: Global, journals: &Journals) -> Result<Verdict, AllocError>
         ensures { IfOk result (λ v. IsVerdict (opens journals.now.opening) journals.now.faults (journals_of journals.now) v) }

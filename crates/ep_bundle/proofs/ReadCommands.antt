@@ -1,4 +1,4 @@
--- Commands: each took its own bytes, the lengths as its version reports them and the parts as all do.
+-- Commands: each took its own bytes, the lengths as its version writes them and the parts as all do.
 use Rattle.std.proofs.Common.{◌≡◌, ℕ, ◌+◌, ◌≤◌, Bool, true, false, ◌&&◌, not, cond, leb, List, [], ◌++◌, length, length-append, append-nil, append_assoc, Option, Some, None, Result, Ok, Err, refl, sym, ap, ◌∙◌, subst, arith}
 use Rattle.std.proofs.lemmas.Bool.{leb-true, and_parts}
 use Rattle.ep_base.specs.Commands.{Command}
@@ -55,7 +55,7 @@ op_gives v l h =
 
 -- the lengths
 
--- as they are reported after the first key's
+-- as they stand after the first key's
 abbrev pub other_in : Version → Lengths → List ℕ
 other_in V1 s = number_bytes 2 (s.second + s.body)
 other_in V2 s = number_bytes 2 (s.second + s.body)
@@ -70,7 +70,7 @@ pub record IsOther (v : Version) (o : Op) (k : ℕ) (s : Lengths) : Type 0 where
   pub fit : (second_fits o s.second ≡ true) × (body_fits o s.body ≡ true)
   pub short : IsShortIn v s.body
 
--- the lengths that a command of version 1 or 2 reports are of its parts
+-- the lengths that a command of version 1 or 2 has are of its parts
 pub early_lengths_are : (o : Op) (k n : ℕ) → first_fits o k ≡ true → early_fits o n ≡ true → AreLengths (record { op = o; first = k; second = second_in o n; body = body_in o n })
 early_lengths_are o k n h e =
     let p = and_parts (second_fits o (second_in o n)) (leb (body_in o n) 1024 && body_fits o (body_in o n)) e in

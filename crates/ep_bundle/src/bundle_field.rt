@@ -75,7 +75,7 @@ pub enum BundleField {
     AnswerLength,
     /// The value.
     AnswerValue,
-    /// The number of keys that an answer reports.
+    /// The number of keys whose values an answer has.
     ReportedKeys,
     /// Whether such a key had a value.
     ReportedMark,

@@ -1,4 +1,4 @@
-//! Commands: an op, the lengths of its parts, and these, one after the other. The versions report the lengths differently, and nothing else.
+//! Commands: an op, the lengths of its parts, and these, one after the other. The versions write the lengths differently, and nothing else.
 
 ghost use Rattle.std.specs.Prelude.{◌≡◌, ◌≤◌, not, ℕ, List, Some, IfOk, OnOk, true, false, length};
 ghost use Rattle.ep_base.specs.Devices.{FailsAsReported};

@@ -9,7 +9,7 @@
 //! bundles, are `read_laws.rt` and `write_laws.rt`.
 //!
 //! Bytes are judged in their order: a field where it is read, an entry once it is whole. The first field at fault is
-//! reported by its name, its offset and what may stand there (`BadField`), as the grammar's definition says. A stage
+//! named, with its offset and what may stand there (`BadField`), as the grammar's definition says. A stage
 //! that is added to the reader wants its definition in specs/Stages.antt first.
 #![tactic(auto)]
 

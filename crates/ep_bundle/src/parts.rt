@@ -78,7 +78,7 @@ fn plain_answer(code: u8) -> Answer
     }
 }
 
-/// The answer of a code that reported values follow.
+/// The answer of a code that values follow.
 fn reported_answer(code: u8, reported: ReplyValues) -> Answer
     ensures { result ≡ reported_answer code reported }
 {
@@ -154,7 +154,7 @@ pub(crate) fn read_answer<S: Source>(
     read_reply(source, place, version, code, room)
 }
 
-/// The values that the answer reports of many keys; none where it is another one.
+/// The values that the answer has of many keys; none where it is another one.
 fn reported_in(answer: &Answer) -> &[Option<Value>]
     ensures { result.now ≡ reported_in answer.now }
 {
@@ -165,7 +165,7 @@ fn reported_in(answer: &Answer) -> &[Option<Value>]
     }
 }
 
-/// Whether the answer has this code, 5 or 6, whatever it reports.
+/// Whether the answer has this code, 5 or 6, whatever its values are.
 fn has_code(answer: &Answer, code: u8) -> bool
     requires { (5 ≤ code) × (code ≤ 6) }
     ensures yes { result ≡ true → answer.now ≡ reported_answer code (reported_in answer.now) }

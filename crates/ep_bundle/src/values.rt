@@ -61,7 +61,7 @@ pub(crate) fn read_value<S: Source>(
     Value::new(room.alloc, &room.spare).map_err(|_| BundleFault::Memory)
 }
 
-/// What one key had that is reported: a value, or none; by way of what the room has to spare.
+/// What one key had: a value, or none; by way of what the room has to spare.
 fn read_one_reported<S: Source>(
     source: &mut S,
     place: &mut u64,
@@ -125,7 +125,7 @@ fn reports(answer: &Answer, value: &[u8]) -> bool
     }
 }
 
-/// Whether a value, which is read with its length before it, is the one that the answer reports. It is read over what `spare` had.
+/// Whether a value, which is read with its length before it, is the one that the answer has. It is read over what `spare` had.
 pub(crate) fn read_same_value<S: Source>(
     source: &mut S,
     place: &mut u64,
@@ -217,7 +217,7 @@ fn are_as_many(values: &[Option<Value>], count: u16) -> bool
     values.len() == count as usize
 }
 
-/// Whether what is reported, which is read, are these values; `spare` is as for `read_same_value`.
+/// Whether the answer's values, which are read, are these; `spare` is as for `read_same_value`.
 pub(crate) fn read_same_reported<S: Source>(
     source: &mut S,
     place: &mut u64,

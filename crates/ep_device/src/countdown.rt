@@ -14,7 +14,7 @@ pub(crate) struct Countdown {
 }
 
 impl Countdown {
-    /// Counts a call. `Err` where it fails: the one that is reported to, and each one after it.
+    /// Counts a call. `Err` where it fails: the one that is to fail, and each one after it.
     pub(crate) fn count(&mut self) -> Result<(), DeviceFailed>
         ensures failed { is_some self.new.failed ≡ (self.old.call == 1 || is_some self.old.failed) }
         ensures reported { MatchResult result (λ _. self.new.failed ≡ None) (λ e. self.new.failed ≡ Some e.cause) }

@@ -162,7 +162,7 @@ module _ (g : Graph) (skipped us : List ℕ) (root : ℕ) where
         let k = some_lacking g skipped (deps_at (g i)) d v in
         (onward a.0 (s.reached i here) a.1 (subst (λ o. Has (deps_at o) d) a.1 k.0), k.1)
 
-    -- the same of what a look reports
+    -- the same of what a look finds
     pub reported_some : (o : Option ℕ) (seen' edges' : List ℕ) → is_some o ≡ true → Visits g skipped seen rest i o seen' edges' → IsMissing g root o
     reported_some None seen' edges' e v = absurd (false≢true e)
     reported_some (Some d) seen' edges' e v = search_finds seen' edges' d v

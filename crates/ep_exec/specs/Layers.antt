@@ -27,12 +27,12 @@ abbrev pub stacked : Contents → List (List Entry) → Contents
 stacked m [] = m
 stacked m (l ∷ ls) = stacked (over m l) ls
 
--- what a layer says of a key, or else what is reported already
+-- what a layer says of a key, or else what is known already
 abbrev pub reported_over : Option (Option (List ℕ)) → Option (Option (List ℕ)) → Option (Option (List ℕ))
 reported_over None t = t
 reported_over (Some o) t = Some o
 
--- what the newest layer says that says something of the key k, or else what is reported already
+-- what the newest layer says that says something of the key k, or else what is known already
 abbrev pub reported_by : List ℕ → Option (Option (List ℕ)) → List (List Entry) → Option (Option (List ℕ))
 reported_by k t [] = t
 reported_by k t (l ∷ ls) = reported_by k (reported_over (lookup (is_at k) l) t) ls

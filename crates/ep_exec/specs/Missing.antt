@@ -21,7 +21,7 @@ abbrev pub first_lacking : Graph → List ℕ → List ℕ → Option ℕ
 first_lacking g skipped [] = None
 first_lacking g skipped (i ∷ is) = if is_lacking g skipped i then Some i else first_lacking g skipped is
 
--- a look at what i depends on: one that is lacking is reported; or else i was seen, or is seen now, and its dependencies are still to follow
+-- a look at what i depends on: one that is lacking is found; or else i was seen, or is seen now, and its dependencies are still to follow
 abbrev pub Visits : Graph → List ℕ → List ℕ → List ℕ → ℕ → Option ℕ → List ℕ → List ℕ → Type 0
 Visits g skipped seen edges i (Some d) seen' edges' = first_lacking g skipped (deps_at (g i)) ≡ Some d
 Visits g skipped seen edges i None seen' edges' =

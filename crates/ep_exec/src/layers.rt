@@ -14,7 +14,7 @@ use ep_base::Value;
 use std::alloc::{AllocError, Global};
 use std::sync::Arc;
 
-/// What the layer says of the key, or else what is reported already.
+/// What the layer says of the key, or else what is known already.
 fn reported_over<'a>(
     layer: &'a Changes,
     key: &[u8],

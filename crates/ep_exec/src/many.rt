@@ -47,7 +47,7 @@ fn holds(table: &Table, key: &[u8], guard: Option<Option<&[u8]>>) -> bool
     }
 }
 
-// What each key has that is reported.
+// What each key had whose value is asked for.
 fn reply_values(
     alloc: Global,
     table: &Table,

@@ -13,7 +13,7 @@ use std::marker::Model;
 /// How many instances a list has at most that is looked through one by one.
 const FEW: usize = 16;
 
-/// A list of instances that reports at once whether it has one: it looks through a short list, and a longer one has marks, each where the
+/// A list of instances that finds at once whether it has one: it looks through a short list, and a longer one has marks, each where the
 /// instance's number and leader say. Marks take a byte for every number up to the greatest, times eight.
 #[derive(Drop)]
 pub struct Marked {

@@ -80,7 +80,7 @@ op_of n =
 abbrev pub key_len_allowed : Header → Bool
 key_len_allowed h = first_fits (op_of h.op) h.key_len
 
--- what the field at 36 reports: in versions 1 and 2 it is the length of a put's body too, which has at most 1,024 bytes
+-- what the field at 36 is: in versions 1 and 2 it is the length of a put's body too, which has at most 1,024 bytes
 abbrev pub text_fits : Version → Op → (second body : ℕ) → Bool
 text_fits V1 o second body = second_fits o second && nat_le body 1024
 text_fits V2 o second body = second_fits o second && nat_le body 1024
@@ -125,7 +125,7 @@ body_rows v h =
     (Field 30, seq_allowed h) ∷ (Field 34, op_allowed v h) ∷ (Field 35, key_len_allowed h)
     ∷ (Field 36, text_len_allowed v h) ∷ (Field 38, count_allowed v h) ∷ []
 
--- never reported in versions 1 and 2
+-- never found in versions 1 and 2
 abbrev pub late_rows : Version → Header → List (FrameFault × Bool)
 late_rows v h = (Field 40, generation_allowed v h) ∷ (Field 44, body_len_allowed h) ∷ []
 

@@ -18,6 +18,6 @@ parts_in l =
       deps = l.deps.now;
     }
 
--- the message that is reported
-abbrev pub reported_by : InstanceMessage → Message
-reported_by t = says t.instance t.said
+-- the message whose parts these are
+abbrev pub as_message : InstanceMessage → Message
+as_message t = says t.instance t.said

@@ -49,7 +49,7 @@ impl Frame {
     /// The frame that the bytes are; otherwise the first fault from left to right.
     pub fn read(bytes: Bytes) -> Result<Frame, FrameFault>
         ensures exact { MatchResult result (λ f. fault_of bytes ≡ Ok tt) (λ f. fault_of bytes ≡ Err f) }
-        // What is read spells the message that its fields report.
+        // What is read spells the message that its fields say.
         ensures found { IfOk result (λ _. Spells (version_at bytes) bytes (sender_at bytes) (origin_at bytes) (message_at bytes)) }
         // What spells a message is read.
         ensures only { IsFrame bytes → IsOk result }

@@ -39,9 +39,9 @@ pub struct Header {
     pub replica: u8,
     /// How far the vote of an answer to a Prepare goes, 0 (no vote) to 3; else 0.
     pub status: u8,
-    /// The counter of the ballot voted at, or promised, 0 to 60,000; 0 in a message that reports neither.
+    /// The counter of the ballot voted at, or promised, 0 to 60,000; 0 in a message that names neither.
     pub other_counter: u16,
-    /// The leader of that ballot, 0 to 6; 0 in a message that reports none.
+    /// The leader of that ballot, 0 to 6; 0 in a message that names none.
     pub other_replica: u8,
     /// The sequence number, 1 to 1,000,000; 0 in a message without attributes.
     pub seq: u32,

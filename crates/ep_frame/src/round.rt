@@ -5,7 +5,7 @@ ghost use Rattle.std.specs.Prelude.{◌≡◌, ◌≤◌, ◌<◌, length, slice
 use crate::origin::Origin;
 use ep_base::{ReplicaId, Stamp};
 
-/// Which entry of its sender reports something to several replicas, and to which.
+/// Which entry of its sender sends a message to several replicas, and to which.
 #[derive(Clone, Copy)]
 pub struct Round<'a> {
     /// The entry's place in the sender's journal, from 1.

@@ -338,7 +338,7 @@ impl<'a> FrameView<'a> {
     /// The frame that the bytes are; otherwise the first fault from left to right.
     pub fn read(bytes: &'a Bytes) -> Result<FrameView<'a>, FrameFault>
         ensures exact { MatchResult result (λ v. fault_of bytes.now ≡ Ok tt) (λ f. fault_of bytes.now ≡ Err f) }
-        // What is read spells the message that its fields report.
+        // What is read spells the message that its fields say.
         ensures found { IfOk result (λ _. Spells (version_at bytes.now) bytes.now (sender_at bytes.now) (origin_at bytes.now) (message_at bytes.now)) }
         // What spells a message is read.
         ensures only { IsFrame bytes.now → IsOk result }

@@ -6,7 +6,7 @@ ghost use Rattle.ep_frame.specs.Fields.{spelled, start_fields, origin_fields, ba
 ghost use Rattle.ep_frame.specs.Spelling.{IsFrame, Spells, parts_bytes};
 ghost use Rattle.ep_base.specs.Fitting.{BallotsFit};
 ghost use Rattle.ep_base.specs.Versions.{CanSay};
-ghost use Rattle.ep_frame.specs.Layouts.{parts_in, reported_by};
+ghost use Rattle.ep_frame.specs.Layouts.{parts_in, as_message};
 ghost use Rattle.ep_frame.specs.Origins.{readdressed, OriginFits};
 ghost use Rattle.ep_frame.specs.Rounds.{AreFramesTo, OriginsFit, readdressed_to};
 
@@ -209,70 +209,70 @@ pub fn write(
     requires sayable { CanSay version message.now }
     ensures { IfOk result (λ f. Spells version f from origin message.now) }
 {
-    let reporting = InstanceMessage {
+    let instance_message = InstanceMessage {
         instance: message.instance(),
         said: message.said(),
     };
-    write_said(alloc, version, from, &reporting, origin)
+    write_said(alloc, version, from, &instance_message, origin)
 }
 
-/// The frame of what is reported, as `write` writes it.
+/// The frame of the message, as `write` writes it.
 pub fn write_said(
     alloc: Global,
     version: Version,
     from: ReplicaId,
-    reporting: &InstanceMessage<'_>,
+    message: &InstanceMessage<'_>,
     origin: Origin,
 ) -> Result<Frame, AllocError>
     requires apart { origin.to ≢ from }
     requires entry { 1 ≤ origin.entry }
-    requires ballots { BallotsFit (reported_by reporting.now) }
-    requires sayable { CanSay version (reported_by reporting.now) }
-    ensures { IfOk result (λ f. Spells version f from origin (reported_by reporting.now)) }
+    requires ballots { BallotsFit (as_message message.now) }
+    requires sayable { CanSay version (as_message message.now) }
+    ensures { IfOk result (λ f. Spells version f from origin (as_message message.now)) }
 {
-    let bytes = written(alloc, version, from, reporting, origin)?;
+    let bytes = written(alloc, version, from, message, origin)?;
     Ok(Frame::written(Bytes::from_vec(bytes)?))
 }
 
-/// The frames of what is reported to each of these receivers, in order, each as `write` writes it. They share one run of bytes.
+/// The frames of the message to each of these receivers, in order, each as `write` writes it. They share one run of bytes.
 ///
 /// The caller sees to what the types leave open, as for `write`. There are one to seven receivers.
 pub fn write_each(
     alloc: Global,
     version: Version,
     from: ReplicaId,
-    reporting: &InstanceMessage<'_>,
+    message: &InstanceMessage<'_>,
     round: &Round<'_>,
 ) -> Result<Vec<Frame>, AllocError>
     requires apart { AllByRecursion (λ to. to ≢ from) round.now.receivers.now }
     requires some { 1 ≤ length round.now.receivers.now }
     requires few { length round.now.receivers.now ≤ 7 }
     requires entry { 1 ≤ round.now.entry }
-    requires ballots { BallotsFit (reported_by reporting.now) }
-    requires sayable { CanSay version (reported_by reporting.now) }
-    ensures { IfOk result (λ f. AreFramesTo version from (reported_by reporting.now) round.now.entry round.now.stamp 0 round.now.receivers.now f.items) }
+    requires ballots { BallotsFit (as_message message.now) }
+    requires sayable { CanSay version (as_message message.now) }
+    ensures { IfOk result (λ f. AreFramesTo version from (as_message message.now) round.now.entry round.now.stamp 0 round.now.receivers.now f.items) }
 {
-    let first = written(alloc, version, from, reporting, round.origin(0))?;
+    let first = written(alloc, version, from, message, round.origin(0))?;
     let all = repeated(alloc, &first, round)?;
     cut(alloc, Bytes::from_vec(all)?, &first, round)
 }
 
-/// The bytes of the frame of what is reported.
+/// The bytes of the frame of the message.
 fn written(
     alloc: Global,
     version: Version,
     from: ReplicaId,
-    reporting: &InstanceMessage<'_>,
+    message: &InstanceMessage<'_>,
     origin: Origin,
 ) -> Result<Vec<u8>, AllocError>
     requires apart { origin.to ≢ from }
     requires entry { 1 ≤ origin.entry }
-    requires ballots { BallotsFit (reported_by reporting.now) }
-    requires sayable { CanSay version (reported_by reporting.now) }
-    ensures { IfOk result (λ b. Spells version b.items from origin (reported_by reporting.now)) }
+    requires ballots { BallotsFit (as_message message.now) }
+    requires sayable { CanSay version (as_message message.now) }
+    ensures { IfOk result (λ b. Spells version b.items from origin (as_message message.now)) }
 {
     let _kind = version.kind();
-    let parts = Layout::of(version, from, origin, reporting);
+    let parts = Layout::of(version, from, origin, message);
     let mut out = Vec::with_capacity(alloc, parts.header.len())?;
     put_parts(&mut out, &parts)?;
     Ok(out)

@@ -121,121 +121,121 @@ pub(crate) fn written(
     requires said { AllSayable version (sends cell.now change.now) }
     ensures { IfOk result (λ f. AreSpelled version mark.number mark.stamp 0 f (sent_from cell.now.me (sends cell.now change.now))) }
 {
-    let Some((to, reporting)) = change.said(cell) else {
+    let Some((to, message)) = change.said(cell) else {
         return Ok(Frames::none(alloc));
     };
-    let reported = Multicast {
+    let multicast = Multicast {
         version,
         mark,
         to,
-        reporting: &reporting,
+        message: &message,
     };
-    written_of(alloc, cell, &reported)
+    written_of(alloc, cell, &multicast)
 }
 
-/// The frames of what is reported, by rising receiver.
+/// The frames of the message, by rising receiver.
 #[inline(always)]
 fn written_of(
     alloc: Global,
     cell: &InstanceView<'_>,
-    reported: &Multicast<'_>,
+    multicast: &Multicast<'_>,
 ) -> Result<Frames, AllocError>
-    requires number { 1 ≤ reported.now.mark.number }
-    requires fit { AllFit cell.now.me (to_receivers cell.now.faults cell.now.me cell.now.instance reported.now.to (says reported.now.reporting.now.instance reported.now.reporting.now.said)) }
-    requires said { AllSayable reported.now.version (to_receivers cell.now.faults cell.now.me cell.now.instance reported.now.to (says reported.now.reporting.now.instance reported.now.reporting.now.said)) }
-    ensures { IfOk result (λ f. AreSpelled reported.now.version reported.now.mark.number reported.now.mark.stamp 0 f (sent_from cell.now.me (to_receivers cell.now.faults cell.now.me cell.now.instance reported.now.to (says reported.now.reporting.now.instance reported.now.reporting.now.said)))) }
+    requires number { 1 ≤ multicast.now.mark.number }
+    requires fit { AllFit cell.now.me (to_receivers cell.now.faults cell.now.me cell.now.instance multicast.now.to (says multicast.now.message.now.instance multicast.now.message.now.said)) }
+    requires said { AllSayable multicast.now.version (to_receivers cell.now.faults cell.now.me cell.now.instance multicast.now.to (says multicast.now.message.now.instance multicast.now.message.now.said)) }
+    ensures { IfOk result (λ f. AreSpelled multicast.now.version multicast.now.mark.number multicast.now.mark.stamp 0 f (sent_from cell.now.me (to_receivers cell.now.faults cell.now.me cell.now.instance multicast.now.to (says multicast.now.message.now.instance multicast.now.message.now.said)))) }
 {
-    match &reported.to {
-        Receivers::One(to) => written_to(alloc, cell, reported, *to),
-        Receivers::FastQuorum(_) => written_to_each(alloc, cell, reported),
-        Receivers::Others => written_to_each(alloc, cell, reported),
+    match &multicast.to {
+        Receivers::One(to) => written_to(alloc, cell, multicast, *to),
+        Receivers::FastQuorum(_) => written_to_each(alloc, cell, multicast),
+        Receivers::Others => written_to_each(alloc, cell, multicast),
     }
 }
 
-/// The frame of what is reported to this replica alone.
+/// The frame of the message to this replica alone.
 #[inline(always)]
 fn written_to(
     alloc: Global,
     cell: &InstanceView<'_>,
-    reported: &Multicast<'_>,
+    multicast: &Multicast<'_>,
     to: ReplicaId,
 ) -> Result<Frames, AllocError>
-    requires number { 1 ≤ reported.now.mark.number }
+    requires number { 1 ≤ multicast.now.mark.number }
     requires apart { to ≢ cell.now.me }
-    requires fits { BallotsFit (says reported.now.reporting.now.instance reported.now.reporting.now.said) }
-    requires said { CanSay reported.now.version (says reported.now.reporting.now.instance reported.now.reporting.now.said) }
-    ensures { IfOk result (λ f. AreSpelled reported.now.version reported.now.mark.number reported.now.mark.stamp 0 f (sent_from cell.now.me ((to, says reported.now.reporting.now.instance reported.now.reporting.now.said) ∷ []))) }
+    requires fits { BallotsFit (says multicast.now.message.now.instance multicast.now.message.now.said) }
+    requires said { CanSay multicast.now.version (says multicast.now.message.now.instance multicast.now.message.now.said) }
+    ensures { IfOk result (λ f. AreSpelled multicast.now.version multicast.now.mark.number multicast.now.mark.stamp 0 f (sent_from cell.now.me ((to, says multicast.now.message.now.instance multicast.now.message.now.said) ∷ []))) }
 {
     let origin = Origin {
         to,
         out: 0,
-        entry: reported.mark.number,
-        stamp: reported.mark.stamp,
+        entry: multicast.mark.number,
+        stamp: multicast.mark.stamp,
     };
     let mut items = Vec::with_capacity(alloc, 1)?;
     let frame = write_said(
         alloc,
-        reported.version,
+        multicast.version,
         cell.me(),
-        reported.reporting,
+        multicast.message,
         origin,
     )?;
     items.push_reserved(frame);
     Ok(Frames { items })
 }
 
-/// The frames of what is reported to each of several replicas, by rising receiver. They share one run of bytes.
+/// The frames of the message to each of several replicas, by rising receiver. They share one run of bytes.
 fn written_to_each(
     alloc: Global,
     cell: &InstanceView<'_>,
-    reported: &Multicast<'_>,
+    multicast: &Multicast<'_>,
 ) -> Result<Frames, AllocError>
-    requires number { 1 ≤ reported.now.mark.number }
-    requires fit { AllFit cell.now.me (to_those (receives cell.now reported.now.to) (size cell.now.faults) (says reported.now.reporting.now.instance reported.now.reporting.now.said)) }
-    requires said { AllSayable reported.now.version (to_those (receives cell.now reported.now.to) (size cell.now.faults) (says reported.now.reporting.now.instance reported.now.reporting.now.said)) }
-    ensures { IfOk result (λ f. AreSpelled reported.now.version reported.now.mark.number reported.now.mark.stamp 0 f (sent_from cell.now.me (to_those (receives cell.now reported.now.to) (size cell.now.faults) (says reported.now.reporting.now.instance reported.now.reporting.now.said)))) }
+    requires number { 1 ≤ multicast.now.mark.number }
+    requires fit { AllFit cell.now.me (to_those (receives cell.now multicast.now.to) (size cell.now.faults) (says multicast.now.message.now.instance multicast.now.message.now.said)) }
+    requires said { AllSayable multicast.now.version (to_those (receives cell.now multicast.now.to) (size cell.now.faults) (says multicast.now.message.now.instance multicast.now.message.now.said)) }
+    ensures { IfOk result (λ f. AreSpelled multicast.now.version multicast.now.mark.number multicast.now.mark.stamp 0 f (sent_from cell.now.me (to_those (receives cell.now multicast.now.to) (size cell.now.faults) (says multicast.now.message.now.instance multicast.now.message.now.said)))) }
 {
-    let chosen = receivers_of(cell, reported);
+    let chosen = receivers_of(cell, multicast);
     let receivers = chosen.as_slice();
     if receivers.is_empty() {
         return Ok(Frames::none(alloc));
     }
     let round = Round {
-        entry: reported.mark.number,
-        stamp: reported.mark.stamp,
+        entry: multicast.mark.number,
+        stamp: multicast.mark.stamp,
         receivers,
     };
     let items = write_each(
         alloc,
-        reported.version,
+        multicast.version,
         cell.me(),
-        reported.reporting,
+        multicast.message,
         &round,
     )?;
     Ok(Frames { items })
 }
 
 /// The cluster's replicas that are receivers, by rising number.
-fn receivers_of(cell: &InstanceView<'_>, reported: &Multicast<'_>) -> Chosen
+fn receivers_of(cell: &InstanceView<'_>, multicast: &Multicast<'_>) -> Chosen
     ensures few { length result ≤ 7 }
-    ensures sent { (m : Message) → to_each result m ≡ to_those (receives cell.now reported.now.to) (size cell.now.faults) m }
+    ensures sent { (m : Message) → to_each result m ≡ to_those (receives cell.now multicast.now.to) (size cell.now.faults) m }
 {
     let mut chosen = Chosen::none(cell.me());
     for r in 0..cell.size().count() {
-        add_if(&mut chosen, cell, reported, r);
+        add_if(&mut chosen, cell, multicast, r);
     }
     chosen
 }
 
 /// Adds the replica of this number, if it is one of the receivers.
 #[tactic(auto, using(crate::proofs::Spelling::each_added, crate::proofs::Spelling::each_passed))]
-fn add_if(chosen: &mut Chosen, cell: &InstanceView<'_>, reported: &Multicast<'_>, r: u8)
+fn add_if(chosen: &mut Chosen, cell: &InstanceView<'_>, multicast: &Multicast<'_>, r: u8)
     requires replica { r ≤ 6 }
     requires room { length chosen.old ≤ r }
     ensures few { length chosen.new ≤ r + 1 }
-    ensures sent { (m : Message) → to_each chosen.new m ≡ to_each chosen.old m ++ cond (receives cell.now reported.now.to r) ((r, m) ∷ []) [] }
+    ensures sent { (m : Message) → to_each chosen.new m ≡ to_each chosen.old m ++ cond (receives cell.now multicast.now.to r) ((r, m) ∷ []) [] }
 {
-    if is_receiver(cell, reported.to, r) {
+    if is_receiver(cell, multicast.to, r) {
         chosen.push(replica(r));
     }
 }
@@ -257,7 +257,7 @@ struct Multicast<'a> {
     version: Version,
     mark: Mark,
     to: Receivers,
-    reporting: &'a InstanceMessage<'a>,
+    message: &'a InstanceMessage<'a>,
 }
 
 /// The replica of this number.

@@ -50,7 +50,7 @@ fn hear_status(alloc: Global, hosted: &mut Hosted, bytes: &[u8]) -> u8
     }
 }
 
-/// A frame came from a peer: its bytes, as that one's `ep_answers` reported them. EP_NO_REPLICA, EP_LENT, EP_MEMORY; EP_BAD_FRAME; EP_NOT_MINE; EP_OUT_OF_RANGE: a replica
+/// A frame came from a peer: its bytes, as that one's `ep_answers` gave them. EP_NO_REPLICA, EP_LENT, EP_MEMORY; EP_BAD_FRAME; EP_NOT_MINE; EP_OUT_OF_RANGE: a replica
 /// of which it speaks isn't of the cluster; EP_SEQ_EXHAUSTED; EP_STAMP_FULL.
 #[unsafe(no_mangle)]
 pub extern "C" fn ep_handle(alloc: Global, handle: &mut Handle, frame: &[u8]) -> u8

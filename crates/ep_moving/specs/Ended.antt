@@ -62,7 +62,7 @@ pub record IsOpeningAfter (c : Collected) (me : ℕ) (file : File) : Type 0 wher
   pub base_stamp : IsGreatest c file.opening.base_stamp
   pub faults : file.faults ≡ c.faults
   pub generation : file.generation ≡ 2
-  -- no seal began it, and the file reports an empty value
+  -- no seal began it, and the file has an empty value
   pub seal : file.seal ≡ Some []
 
 -- a command in i is committed, and the replica me hasn't executed it

@@ -25,7 +25,7 @@ use std::mem::forget;
 /// What the logs leave goes on first: the replica of the last log is handed each commit that another one has sent it, and executes all that is committed. The
 /// journals then have to be accepted by an audit, and each command that any of them commits has to be executed. The map is the one after their
 /// history; clocks go on from the greatest stamp of all entries; the instances that are listed are those of all commands that are committed. What no
-/// journal commits was reported to nobody, and is dropped.
+/// journal commits nobody was answered, and it is dropped.
 pub fn opening_of_logs(alloc: Global, logs: &[Vec<u8>]) -> Result<Moved, MoveFault>
     ensures ok { IfOk result (λ m. IsMoved (contents logs.now) m.opening.items m.ends.items) }
     ensures err { IfErr result (λ e. IsUnmoved (contents logs.now) e) }

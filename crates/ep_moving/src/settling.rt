@@ -18,7 +18,7 @@ use ep_journal::{Entry, Event, Journal, StepFault};
 use ep_replica::{Replica, ResumeFault};
 use std::alloc::{AllocError, Global};
 
-/// How the header of a frame reports a Commit.
+/// The number by which the header of a frame says that it is a Commit.
 const COMMIT: u8 = 5;
 
 /// The instance of this number that the replica leads.
@@ -41,7 +41,7 @@ fn take(replica: &mut Replica, event: Event) -> Result<(), AllocError>
     }
 }
 
-/// Whether the frame reports to the replica a commit that it hasn't.
+/// Whether the frame has a commit that the replica hasn't.
 fn is_wanted(replica: &Replica, frame: &Frame) -> bool {
     let header = frame.view().header();
     header.kind == COMMIT
@@ -49,7 +49,7 @@ fn is_wanted(replica: &Replica, frame: &Frame) -> bool {
         && replica.committed(frame.instance()).is_none()
 }
 
-/// Hands the replica the frame, where it reports a commit that the replica hasn't.
+/// Hands the replica the frame, where it has a commit that the replica hasn't.
 fn hand(replica: &mut Replica, frame: &Frame) -> Result<(), AllocError>
     ensures { OnOk result (GoesOn replica.old replica.new) }
 {

@@ -55,7 +55,7 @@ module _ (start : Start) (f : ℕ) (before after : Cluster) (kept : Lasts before
   agrees : (r : ℕ) (t : Receipt) → IsOwn (opened start.map) f r (after.journal r) t → Agrees (opened start.map) f after.journal t
   agrees r t own = own_receipts_agree_lem (opened start.map) start.base_stamp f after.journal run.clocked r t own
 
-  -- the act of the schedule that executed what a receipt reports
+  -- the act of the schedule that executed what a receipt is for
   replied : (schedule : List Scheduled) → IsSchedule after.journal schedule → (r : ℕ) (t : Receipt) → IsOwn (opened start.map) f r (after.journal r) t →
       IsReply (opened start.map) (command_at (opened start.map) f after.journal) (history_of (command_at (opened start.map) f after.journal) schedule) t.instance t.answer
   replied schedule is r t own =

@@ -7,7 +7,7 @@ use Rattle.ep_space.specs.Open.{IsNextOpen}
 use Rattle.ep_node.specs.Reporting.{open_as, AreOpen}
 use Rattle.ep_node.specs.declared.open_instance.OpenInstance.{OpenInstance}
 
--- whatever is reported of the others, after so many turns, completes the whole
+-- whatever the others give, after so many turns, completes the whole
 abbrev pub Completes : Kept → ℕ → ℕ → Option ℕ → List OpenInstance → Type 0
 Completes k most turn above reported = (rest : List OpenInstance) → AreOpen k (most - turn) above rest → AreOpen k most None (reported ++ rest)
 

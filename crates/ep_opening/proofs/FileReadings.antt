@@ -10,7 +10,7 @@ use Rattle.ep_opening.specs.declared.opening_fault.OpeningFault.{OpeningFault}
 use Rattle.ep_opening.specs.declared.opening_fault.OpeningFault.TheVariants.{Memory, CutShort, Damaged, Wrong}
 use Rattle.ep_opening.specs.declared.opening_field.OpeningField.{OpeningField}
 
--- what was read is reported
+-- what was read is given
 pub reported_read : {A : Type 0} (name : ℕ → OpeningField) (o : Reading A) (a : A) (p : ℕ) (left : Option (List ℕ)) → Reads o (Ok a) p left → ReadsAs (file_reading name o) (Ok a) p left
 reported_read {A = A} name o a p left h = (h.0, h.1, ap (λ (x : Reading A). file_reading name x) h.2)
 
@@ -53,7 +53,7 @@ pub made_reported : {A : Type 0} (a : A) (p : ℕ) (ys : List ℕ) (left : Optio
 made_reported {A = A} a p ys left (Ok x) h is e = (ys, h, ap (λ (y : A). Ok (y, record { at = p; bytes = ys })) (sym is))
 made_reported {A = A} a p ys left (Err f) h is e = subst (λ (x : OpeningFault). ReadsAs {A = A} (Ok (a, record { at = p; bytes = ys })) (Err x) p left) (sym e) tt
 
--- what is reported of a whole is reported so, wherever it leaves off
+-- what is said of a whole holds wherever it leaves off
 pub is_reported : {A : Type 0} (o : FileReading A) (r : Result A OpeningFault) (p : ℕ) (left : Option (List ℕ)) → ReadsAs o r p left → IsReadAs o r
 is_reported o (Ok a) p left h = (record { at = p; bytes = h.0 }, h.2)
 is_reported o (Err Memory) p left h = tt

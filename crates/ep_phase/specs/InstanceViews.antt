@@ -20,7 +20,7 @@ pub record InstanceView : Type 0 where
   -- all that it recorded, which is what the interference set is taken from
   pub records : Map Record
   pub led : Option LedInstance
-  -- the greatest counter reported, 0 where none was
+  -- the greatest counter that a Nack named, 0 where none did
   pub reported : ℕ
 
 abbrev pub known_code : Coded InstanceView

@@ -1,4 +1,4 @@
--- What a replica leads, and the counters that Nacks reported it.
+-- What a replica leads, and the counters that Nacks named.
 use Rattle.std.specs.Prelude.{ℕ, refl, Option}
 use Rattle.std.specs.Coded.{Coded, code_by, coded×, coded_ℕ}
 use Rattle.std.specs.FinMap as map
@@ -11,11 +11,11 @@ use Rattle.ep_space.specs.Held.{Places}
 
 pub record Lead : Type 0 where
   pub leads : Map LedInstance
-  -- the greatest counter reported, where one was
+  -- the greatest counter that a Nack named, where one did
   pub reported : Map ℕ
   -- the instances that have a place for what is led
   pub places : Places
-  -- those that have one for the counter reported
+  -- those that have one for a counter
   pub reported_places : Places
 
 abbrev pub leads_code : Coded Lead
@@ -28,6 +28,6 @@ leads_code =
 abbrev pub with_lead : Lead → ℕ → Option LedInstance → Lead
 with_lead l i o = record l { leads = with_held l.leads i o }
 
--- the same, with this counter reported of i, or with none
+-- the same, with this counter of i, or with none
 abbrev pub with_reported : Lead → ℕ → Option ℕ → Lead
 with_reported l i o = record l { reported = with_held l.reported i o }

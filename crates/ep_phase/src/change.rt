@@ -30,7 +30,7 @@ use std::alloc::AllocError;
 pub struct Change {
     pub entry: Recorded,
     pub led: LeadChange,
-    /// The counter that is reported from now on; none where that stays.
+    /// The counter that a Nack named; none where the one before stays.
     pub reported: Option<u16>,
     pub out: Option<Sending>,
 }
@@ -61,7 +61,7 @@ impl Change {
         Change::of(Recorded::Stays, LeadChange::Leads(led), None)
     }
 
-    /// This is recorded, led and sent; the counter reported stays.
+    /// This is recorded, led and sent; the counter stays.
     #[inline(always)]
     pub fn of(entry: Recorded, led: LeadChange, out: Option<Sending>) -> Change
         ensures { result ≡ record { entry = entry; led = led; reported = None; out = out } }

@@ -11,7 +11,7 @@ use ep_rules::{LedInstance, Record};
 use ep_space::Space;
 use std::marker::Model;
 
-/// What a replica knows of one instance: its record, and what is led there, each looked up once, and lent; the greatest counter reported;
+/// What a replica knows of one instance: its record, and what is led there, each looked up once, and lent; the greatest counter that a Nack named;
 /// and all of the replica's records, for the interference set of a command.
 #[derive(Drop)]
 pub struct InstanceView<'a> {
@@ -144,7 +144,7 @@ impl<'a> InstanceView<'a> {
         self.led
     }
 
-    /// The greatest counter that a Nack reported of the instance, 0 where none did.
+    /// The greatest counter that a Nack named for the instance, 0 where none did.
     pub fn reported(&self) -> u16
         ensures { result ≡ self.now.reported }
     {

@@ -16,7 +16,7 @@ use ep_space::Table;
 use std::alloc::{AllocError, Global};
 use std::marker::Model;
 
-/// What a replica leads, instance by instance, and the greatest counters that Nacks reported it.
+/// What a replica leads, instance by instance, and the greatest counters that Nacks named.
 /// An instance first gets a place for the one, or for the other, which takes memory; both are then written without. An answer more may
 /// take memory.
 pub struct Lead {
@@ -44,7 +44,7 @@ impl Model for Lead {
 }
 
 impl Lead {
-    /// Nothing is led, and no counter was reported.
+    /// Nothing is led, and no Nack named a counter.
     pub fn new(alloc: Global) -> Lead
         ensures { result ≡ record { leads = none; reported = none; places = set.empty; reported_places = set.empty } }
     {
@@ -54,7 +54,7 @@ impl Lead {
         }
     }
 
-    /// All that is led and reported again.
+    /// All of it, copied.
     pub fn duplicate(&self, alloc: Global) -> Result<Lead, AllocError>
         ensures { IfOk result (λ l. l ≡ self.now) }
     {
@@ -72,7 +72,7 @@ impl Lead {
         self.leads.reserve(id)
     }
 
-    /// Makes a place for the counter reported of the instance, if it has none.
+    /// Makes a place for the counter of the instance, if it has none.
     pub fn reserve_reported(&mut self, id: InstanceId) -> Result<(), AllocError>
         ensures ok { OnOk result (self.new ≡ record self.old { reported_places = set.insert self.old.reported_places id }) }
         ensures place { OnOk result (HasPlace self.new.reported_places id) }
@@ -149,9 +149,9 @@ impl Lead {
         self.leads.clear(id);
     }
 
-    // The counters reported.
+    // The counters that Nacks named.
 
-    /// The greatest counter that a Nack reported of the instance, 0 where none did.
+    /// The greatest counter that a Nack named for the instance, 0 where none did.
     pub fn reported(&self, id: InstanceId) -> u16
         ensures { result ≡ or_zero (get self.now.reported id) }
     {
@@ -161,14 +161,14 @@ impl Lead {
         }
     }
 
-    /// That counter, or none where no Nack reported one: what a later `put_back_reported` may put back.
+    /// That counter, or none where no Nack named one: what a later `put_back_reported` may put back.
     pub fn earlier_reported(&self, id: InstanceId) -> Option<u16>
         ensures { result ≡ get self.now.reported id }
     {
         self.reported.get(id).copied()
     }
 
-    /// Keeps this counter as the one reported. It takes no memory.
+    /// Keeps this counter. It takes no memory.
     pub fn set_reported(&mut self, id: InstanceId, counter: u16)
         requires { HasPlace self.old.reported_places id }
         ensures { self.new ≡ with_reported self.old id (Some counter) }
@@ -176,7 +176,7 @@ impl Lead {
         self.reported.write(id, Some(counter));
     }
 
-    /// Puts back the counter reported earlier, or that none was. It takes no memory.
+    /// Puts back the counter that was there earlier, or that there was none. It takes no memory.
     pub fn put_back_reported(&mut self, id: InstanceId, earlier: Option<u16>)
         requires { HasPlace self.old.reported_places id }
         ensures { self.new ≡ with_reported self.old id earlier }

@@ -27,7 +27,7 @@ pub fn on_prepare(cell: &InstanceView<'_>, from: ReplicaId, ballot: Ballot) -> C
     Change::of(Recorded::Joins(ballot), LeadChange::Stays, Some(out))
 }
 
-/// Handles a Nack: the greatest counter reported of the instance is kept. It takes no memory.
+/// Handles a Nack: the greatest counter that one named for the instance is kept. It takes no memory.
 pub fn on_nack(cell: &InstanceView<'_>, promised: Ballot) -> Change
     ensures { change_of cell.now result ≡ rules.on_nack promised cell.now.reported }
 {

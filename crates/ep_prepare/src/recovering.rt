@@ -42,7 +42,7 @@ pub fn recover(alloc: Global, cell: &InstanceView<'_>) -> Result<Change, Decisio
     ))
 }
 
-/// This replica's ballot above the promised one and the counter reported, if there is one.
+/// This replica's ballot above the promised one and the counter that a Nack named, if there is one.
 fn next_ballot(promised: Ballot, reported: u16, me: ReplicaId) -> Option<Ballot>
     ensures next { IfSome result (λ b. (b ≡ ballot_of (1 + max (counter_of promised) reported) me) × (1 + max (counter_of promised) reported ≤ highest_counter)) }
     ensures none { IfNone result (highest_counter < 1 + max (counter_of promised) reported) }

@@ -8,7 +8,7 @@ use ep_frame::FrameFault;
 use ep_journal::StepFault;
 use thiserror::Error;
 
-/// Why an event was not applied: the bytes are no frame of the replica's version and generation; or a `StepFault`, whose instance is reported by its two numbers. The replica is then as it was.
+/// Why an event was not applied: the bytes are no frame of the replica's version and generation; or a `StepFault`, whose instance is named by its two numbers. The replica is then as it was.
 #[derive(Clone, Copy, Debug, PartialEq, Eq, Error)]
 pub enum ReplicaFault {
     #[error("E1 memory")]

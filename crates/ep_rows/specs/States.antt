@@ -13,7 +13,7 @@ use Rattle.ep_rows.specs.OneMap.{Store}
 use Rattle.ep_rules.specs.declared.led_instance.LedInstance.{LedInstance}
 use Rattle.ep_rules.specs.declared.record.Record.{Record}
 
--- records, what the replica leads, the counters that Nacks reported, what it executed, in order, and its map
+-- records, what the replica leads, the counters that Nacks named, what it executed, in order, and its map
 pub record State : Type 0 where
   pub records : Map Record
   pub leads : Map LedInstance

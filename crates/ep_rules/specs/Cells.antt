@@ -65,7 +65,7 @@ committed_decree (Some v) = committed_at v.status v.decree
 
 -- Changes.
 
--- the new record, what is led from now on, and the counter that is reported, each none where it stays as it was; and what is sent, with its receivers
+-- the new record, what is led from now on, and the counter that a Nack named, each none where it stays as it was; and what is sent, with its receivers
 pub record Change : Type 0 where
   pub entry : Option Record
   pub led : Option (Option LedInstance)
@@ -103,7 +103,7 @@ pub data Refusal : Type 0 where
   BallotsExhausted : Refusal
   NotCommitted : (instance : ℕ) → Refusal
 
--- what one replica knows of one instance: its record, what it leads, and the greatest counter that a Nack reported it
+-- what one replica knows of one instance: its record, what it leads, and the greatest counter that a Nack named
 pub record Cell : Type 0 where
   pub entry : Option Record
   pub led : Option LedInstance

@@ -48,7 +48,7 @@ abbrev pub with_writes : Contents → List Item → Contents
 with_writes m [] = m
 with_writes m (i ∷ is) = with_writes (with_write m i.key i.write) is
 
--- what each key has that is reported
+-- what each key had whose value is asked for
 abbrev pub reply_values : Contents → List Item → List (Option (List ℕ))
 reply_values m [] = []
 reply_values m (i ∷ is) = if i.reported then value_at m i.key ∷ reply_values m is else reply_values m is

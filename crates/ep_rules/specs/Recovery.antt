@@ -150,6 +150,6 @@ use_prepare_ok f i me b own r (Some more) = cond (is_usable b r more.0) (count_p
 abbrev pub on_prepare_ok : ℕ → ℕ → ℕ → ℕ → ℕ → Option Vote → (Command → Attrs) → Record → Option LedInstance → Outcome
 on_prepare_ok f i me from b v own r led = use_prepare_ok f i me b own r (more_preparing from v led)
 
--- the greatest counter reported is kept
+-- the greatest counter that a Nack named is kept
 abbrev pub on_nack : ℕ → ℕ → Change
 on_nack promised reported = record { entry = None; led = None; reported = Some (max reported (counter_of promised)); out = [] }

@@ -35,11 +35,11 @@ pub enum FolderFault {
     ShortLog(u32),
     /// The log of this generation isn't the one that the next generation opens with.
     OtherLog(u32),
-    /// This generation has so many replicas, and another number was reported.
+    /// This generation has so many replicas, and another number was given.
     OtherSize(u32, u32),
     /// What is to be taken is no opening.
     NoOpening(OpeningFault),
-    /// What is to be taken is for so many replicas, and another number was reported.
+    /// What is to be taken is for so many replicas, and another number was given.
     OtherCluster(u32),
     /// The last generation has been closed.
     Last,

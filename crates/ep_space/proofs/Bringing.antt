@@ -67,7 +67,7 @@ other_run f p q s xs apart = go (same_list q p) refl
     go true e = absurd (apart (sym ((Decides-same_list q p).0 e)))
     go false e = refl
 
--- the same, of what calls report
+-- the same, of what calls give
 
 pub on_value : {X E : Type 0} {P Q : X → Type 0} (r : Result X E) → ((x : X) → P x → Q x) → IfOk r P → IfOk r Q
 on_value (Ok x) f h = f x h

@@ -134,7 +134,7 @@ module _ (m : Map Record) (i : ℕ) (o : Option Record) where
     abbrev pub Entered : Index → Type 0
     Entered fs = (k : List ℕ) → run fs k ≡ cond (brings (keys_at m i) (recorded_keys o) k) (with_instance i (run es k)) (run es k)
 
-    -- where those before are reported so
+    -- where those before are found so
     pub entered_by : (own : List (List ℕ)) → own ≡ keys_at m i → (fs : Index) → ((k : List ℕ) → run fs k ≡ cond (brings own (recorded_keys o) k) (with_instance i (run es k)) (run es k)) → Entered fs
     entered_by own is fs e k = e k ∙ ap (λ ks. cond (brings ks (recorded_keys o) k) (with_instance i (run es k)) (run es k)) is
 

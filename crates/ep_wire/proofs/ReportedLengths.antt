@@ -1,4 +1,4 @@
--- How many bytes values take that are reported.
+-- How many bytes a reply's values take.
 use Rattle.std.proofs.Common.{◌≡◌, ℕ, ◌+◌, List, length, length-append, Option, Some, None, sym, arith}
 use Rattle.std.specs.List.{flat_map, sum_by}
 use Rattle.std.proofs.lemmas.List.Concat.{length-flat_map}
@@ -21,7 +21,7 @@ some_size v =
     let all : reported_size (Some v) ≡ length (number_bytes 1 1) + length (value_bytes (V3 1) v) = length-append (number_bytes 1 1) (value_bytes (V3 1) v) in
     omega arith
 
--- how many bytes follow the length of the reply that reports them
+-- how many bytes follow the length of the reply with them
 pub answer_size : (os : List (Option (List ℕ))) (n : ℕ) → n ≡ sum_by (λ o. length (one_reported_bytes (V3 1) o)) os → 4 + n ≡ 2 + length (reported_bytes (V3 1) os)
 answer_size os n e =
     let two : length (number_bytes 2 (length os)) ≡ 2 = length-number_bytes 2 (length os) in

@@ -137,7 +137,7 @@ pub fn write_waits<K: Sink>(sink: &mut K, instance: InstanceId) -> Result<(), Wr
     put_instance(sink, instance)
 }
 
-/// Writes what a read is reported.
+/// Writes what a read is answered.
 pub fn write_reply<K: Sink>(sink: &mut K, reply: &Reply) -> Result<(), WriteFailed>
     ensures { Puts (K.held sink.old) (K.held sink.new) (K.has_failed sink.old) (K.has_failed sink.new) result (reply_bytes reply.now) }
 {
@@ -151,7 +151,7 @@ pub fn write_reply<K: Sink>(sink: &mut K, reply: &Reply) -> Result<(), WriteFail
     }
 }
 
-/// Writes the reply of this code that reports these values, as they stand in an answer of version 3.
+/// Writes the reply of this code with these values, as they stand in an answer of version 3.
 fn write_reported<K: Sink>(
     sink: &mut K,
     code: u8,
@@ -172,7 +172,7 @@ fn put_reported_in_third<K: Sink>(sink: &mut K, reported: &ReplyValues) -> Resul
     put_reported(sink, Version::from_valid(3, 1), reported)
 }
 
-/// How many bytes follow the length of the reply that reports these values.
+/// How many bytes follow the length of the reply with these values.
 fn reported_reply_len(reported: &ReplyValues) -> u32
     ensures { result ≡ 2 + length (reported_bytes (V3 1) reported.now) }
 {
@@ -212,7 +212,7 @@ fn write_plain<K: Sink>(sink: &mut K, code: u8) -> Result<(), WriteFailed>
     put_u8(sink, code)
 }
 
-/// Writes the reply that reports this value.
+/// Writes the reply with this value.
 fn write_present<K: Sink>(sink: &mut K, value: &Value) -> Result<(), WriteFailed>
     ensures { Puts (K.held sink.old) (K.held sink.new) (K.has_failed sink.old) (K.has_failed sink.new) result (present_bytes value.now) }
 {

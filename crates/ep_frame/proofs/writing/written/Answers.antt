@@ -1,6 +1,6 @@
 use Rattle.ep_base.specs.Generations.{HasItsGeneration}
 use Rattle.std.proofs.Common.{◌<◌, ap, sym, subst, ◌∙◌, List, ℕ, ◌++◌}
-use Rattle.ep_frame.specs.Layouts.{parts_in, reported_by}
+use Rattle.ep_frame.specs.Layouts.{parts_in, as_message}
 use Rattle.ep_frame.specs.Spelling.{FrameParts, parts_bytes}
 use Rattle.ep_frame.specs.Fields.{text_len}
 use Rattle.ep_frame.proofs.Sound.{text_small}
@@ -19,4 +19,4 @@ pub put_parts-requires : goal.put_parts-requires
 put_parts-requires c =
     let own = subst HasItsGeneration c.kind-kind.ensures.value c.kind-kind.ensures.generation in
     subst (λ (p : FrameParts). text_len p.header < 65536) (sym c.of-parts.ensures.parts)
-    (text_small c.args.version c.args.from c.args.origin (reported_by c.args.reporting.now) own c.of-parts.ensures.origin c.of-parts.ensures.message c.requires.sayable)
+    (text_small c.args.version c.args.from c.args.origin (as_message c.args.message.now) own c.of-parts.ensures.origin c.of-parts.ensures.message c.requires.sayable)

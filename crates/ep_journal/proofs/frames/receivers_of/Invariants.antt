@@ -8,5 +8,5 @@ use Rattle.ep_journal.proofs.frames.receivers_of.Given as goal
 abbrev pub invariant-loop-r : goal.invariant-loop-r
 invariant-loop-r l = record {
   few : length l.chosen ≤ l.r;
-  sent : (m : Message) → to_each l.chosen m ≡ to_those (receives l.cell l.reported.to) l.r m;
+  sent : (m : Message) → to_each l.chosen m ≡ to_those (receives l.cell l.multicast.to) l.r m;
 }

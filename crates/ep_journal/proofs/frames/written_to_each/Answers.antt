@@ -16,8 +16,8 @@ use Rattle.ep_journal.proofs.frames.written_to_each.Goals as goal
 
 pub returns-then-is_empty : goal.returns-then-is_empty
 returns-then-is_empty c =
-    let s = c.args.reported.now in
-    let m : Message = says s.reporting.now.instance s.reporting.now.said in
+    let s = c.args.multicast.now in
+    let m : Message = says s.message.now.instance s.message.now.said in
     let rs : List ℕ = c.as_slice-receivers.result.now in
     let none : length rs ≤ 0 = search rules in
     none_spelled s.version s.mark.number s.mark.stamp c.args.cell.now.me m rs c.none.result (to_those (receives c.args.cell.now s.to) (size c.args.cell.now.faults) m) none
@@ -25,35 +25,35 @@ returns-then-is_empty c =
 
 pub write_each-requires-clause-apart : goal.write_each-requires-clause-apart
 write_each-requires-clause-apart c =
-    let s = c.args.reported.now in
+    let s = c.args.multicast.now in
     let me : ℕ = c.args.cell.now.me in
-    let m : Message = says s.reporting.now.instance s.reporting.now.said in
+    let m : Message = says s.message.now.instance s.message.now.said in
     let rs : List ℕ = c.as_slice-receivers.result.now in
     subst (λ (j : ℕ). AllByRecursion (λ r. r ≢ j) rs) (sym c.me.ensures)
     (each_apart me m rs (subst (λ ms. AllFit me ms) (sym (ap (λ (xs : List ℕ). to_each xs m) c.as_slice-receivers.ensures ∙ c.receivers_of-chosen.ensures.sent m)) c.requires.fit))
 
 pub write_each-requires-clause-ballots : goal.write_each-requires-clause-ballots
 write_each-requires-clause-ballots c =
-    let s = c.args.reported.now in
+    let s = c.args.multicast.now in
     let me : ℕ = c.args.cell.now.me in
-    let m : Message = says s.reporting.now.instance s.reporting.now.said in
+    let m : Message = says s.message.now.instance s.message.now.said in
     let rs : List ℕ = c.as_slice-receivers.result.now in
     let some : 1 ≤ length rs = search rules in
     each_fits me m rs some (subst (λ ms. AllFit me ms) (sym (ap (λ (xs : List ℕ). to_each xs m) c.as_slice-receivers.ensures ∙ c.receivers_of-chosen.ensures.sent m)) c.requires.fit)
 
 pub write_each-requires-clause-sayable : goal.write_each-requires-clause-sayable
 write_each-requires-clause-sayable c =
-    let s = c.args.reported.now in
-    let m : Message = says s.reporting.now.instance s.reporting.now.said in
+    let s = c.args.multicast.now in
+    let m : Message = says s.message.now.instance s.message.now.said in
     let rs : List ℕ = c.as_slice-receivers.result.now in
     let some : 1 ≤ length rs = search rules in
     each_sayable s.version m rs some (subst (λ ms. AllSayable s.version ms) (sym (ap (λ (xs : List ℕ). to_each xs m) c.as_slice-receivers.ensures ∙ c.receivers_of-chosen.ensures.sent m)) c.requires.said)
 
 pub returns : goal.returns
 returns c =
-    let s = c.args.reported.now in
+    let s = c.args.multicast.now in
     let me : ℕ = c.args.cell.now.me in
-    let m : Message = says s.reporting.now.instance s.reporting.now.said in
+    let m : Message = says s.message.now.instance s.message.now.said in
     let rs : List ℕ = c.as_slice-receivers.result.now in
     let bs : List (List ℕ) = c.in_ok-items.items.items in
     subst (λ ms. AreSpelled s.version s.mark.number s.mark.stamp 0 bs (sent_from me ms)) (ap (λ (xs : List ℕ). to_each xs m) c.as_slice-receivers.ensures ∙ c.receivers_of-chosen.ensures.sent m)
