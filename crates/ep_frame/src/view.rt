@@ -419,9 +419,11 @@ impl<'a> FrameView<'a> {
         second_key_in(self.bytes.as_slice())
     }
 
-    /// The bytes of the command's body: those behind the keys that the header counts.
+    /// The bytes of the value: those behind the keys that the header counts. Of a put they are what it writes, of other
+    /// commands the rest of what these say (a comparison's two values, the items of one over many keys). Empty where
+    /// the command says no more than its keys.
     #[tactic(auto, using(crate::proofs::Frames::frame_whole))]
-    pub fn body(&self) -> &'a [u8]
+    pub fn value(&self) -> &'a [u8]
         ensures { result.now ≡ body_at self.now }
     {
         body_in(self.bytes.as_slice())

@@ -2,7 +2,7 @@
 use Rattle.std.proofs.Common.{◌≡◌, ℕ, List, Result, Ok, Err, IsOk, MatchResult, subst}
 use Rattle.ep_audit.specs.Audited.{IsAudited}
 use Rattle.ep_bundle.specs.Bytes.{bundle_bytes}
-use Rattle.ep_threads.specs.Finishing.{IsFinished}
+use Rattle.ep_host.specs.Finishing.{IsFinished}
 use Rattle.ep_journal.specs.Entries.{journals_of}
 use Rattle.ep_journal.specs.Openings.{opens}
 use Rattle.ep_audit.specs.Faults.{fault_of}

@@ -3,11 +3,11 @@ use Rattle.std.proofs.Common.{◌≡◌, ◌≢◌, ℕ, zero, suc, ◌<◌, ◌
 use Rattle.std.proofs.lemmas.List.{append-nil}
 use Rattle.std.proofs.lemmas.Bool.{cases_lt}
 use Rattle.std.proofs.lemmas.Bool.Decides.{eqb_tells}
-use Rattle.ep_threads.specs.Node.{Node}
-use Rattle.ep_threads.specs.RingFinishing.{replicas_in, entries_in}
-use Rattle.ep_threads.specs.Tasks.{Use, tasks_in, events_in, refusals_in, event_made as event_by}
-use Rattle.ep_threads.specs.declared.task.Task.{Task}
-use Rattle.ep_threads.proofs.Accepting.{none_after}
+use Rattle.ep_host.specs.Node.{Node}
+use Rattle.ep_host.specs.RingFinishing.{replicas_in, entries_in}
+use Rattle.ep_host.specs.Tasks.{Use, tasks_in, events_in, refusals_in, event_made as event_by}
+use Rattle.ep_host.specs.declared.task.Task.{Task}
+use Rattle.ep_host.proofs.Accepting.{none_after}
 use Rattle.ep_journal.specs.declared.entry.Entry.{Entry}
 use Rattle.ep_journal.specs.declared.step_fault.StepFault.{StepFault}
 use Rattle.ep_journal.specs.Entries.{entries_of}

@@ -6,15 +6,15 @@ use Rattle.std.proofs.lemmas.List.Elements.{Contains-append_left, Contains-push}
 use Rattle.std.proofs.lemmas.Bool.{cases_lt}
 use Rattle.std.proofs.lemmas.Bool.Decides.{eqb_tells}
 use mathlib.Core.List.{IsPrefix}
-use Rattle.ep_threads.specs.Follows.{Works}
-use Rattle.ep_threads.specs.Host.{IsHost, IsFresh, StartsAs}
-use Rattle.ep_threads.specs.Node.{Node, fresh_node}
-use Rattle.ep_threads.specs.Pointwise.{Each}
-use Rattle.ep_threads.specs.RingFinishing.{replicas_in, their_journals}
-use Rattle.ep_threads.specs.Tasks.{Use, tasks_in, events_in, refusals_in, place_after}
-use Rattle.ep_threads.specs.Turns.{AssignsAt}
-use Rattle.ep_threads.specs.declared.task.Task.{Task}
-use Rattle.ep_threads.proofs.Following.{tasks_both, events_both, asked_both, refusals_both, places_both}
+use Rattle.ep_host.specs.Follows.{Works}
+use Rattle.ep_host.specs.Host.{IsHost, IsFresh, StartsAs}
+use Rattle.ep_host.specs.Node.{Node, fresh_node}
+use Rattle.ep_host.specs.Pointwise.{Each}
+use Rattle.ep_host.specs.RingFinishing.{replicas_in, their_journals}
+use Rattle.ep_host.specs.Tasks.{Use, tasks_in, events_in, refusals_in, place_after}
+use Rattle.ep_host.specs.Turns.{AssignsAt}
+use Rattle.ep_host.specs.declared.task.Task.{Task}
+use Rattle.ep_host.proofs.Following.{tasks_both, events_both, asked_both, refusals_both, places_both}
 use Rattle.ep_journal.specs.Entries.{entries_of, first_opening}
 use Rattle.ep_journal.specs.declared.entry.Entry.{Entry}
 use Rattle.ep_journal.specs.declared.step_fault.StepFault.{StepFault}

@@ -1,15 +1,15 @@
 -- What a section leaves of a node.
 use Rattle.std.proofs.Common.{◌≡◌, ℕ, ◌-◌, ◌<◌, ◌≤◌, List, [], ◌++◌, length, get_or, refl, sym, ap, ◌∙◌, arith, All, append_assoc, length-append}
 use Rattle.std.proofs.lemmas.List.{append-nil}
-use Rattle.ep_threads.specs.Follows.{Works, Follows, Settles}
-use Rattle.ep_threads.specs.Node.{Node}
-use Rattle.ep_threads.specs.Pointwise.{Each}
-use Rattle.ep_threads.specs.Setting.{SetsWeather, IsReleased}
-use Rattle.ep_threads.specs.Tasks.{tasks_in, events_in, refusals_in, place_after}
-use Rattle.ep_threads.specs.declared.task.Task.{Task}
-use Rattle.ep_threads.specs.declared.weather.Weather.{Weather}
-use Rattle.ep_threads.proofs.Following.{tasks_both, events_both, asked_both, refusals_both, places_both}
-use Rattle.ep_threads.proofs.Places.{each_each, each_weaker}
+use Rattle.ep_host.specs.Follows.{Works, Follows, Settles}
+use Rattle.ep_host.specs.Node.{Node}
+use Rattle.ep_host.specs.Pointwise.{Each}
+use Rattle.ep_host.specs.Setting.{SetsWeather, IsReleased}
+use Rattle.ep_host.specs.Tasks.{tasks_in, events_in, refusals_in, place_after}
+use Rattle.ep_host.specs.declared.task.Task.{Task}
+use Rattle.ep_host.specs.declared.weather.Weather.{Weather}
+use Rattle.ep_host.proofs.Following.{tasks_both, events_both, asked_both, refusals_both, places_both}
+use Rattle.ep_host.proofs.Places.{each_each, each_weaker}
 use Rattle.ep_journal.specs.Entries.{entries_of}
 use Rattle.ep_journal.specs.declared.entry.Entry.{Entry}
 use Rattle.ep_journal.specs.declared.step_fault.StepFault.{StepFault}
@@ -17,7 +17,7 @@ use Rattle.ep_replica.specs.Kept.{Kept, start_of}
 use Rattle.ep_rules.specs.Journals.{asked_in as asked_in_entries}
 use Rattle.ep_rules.specs.Steps.{Event}
 use Rattle.ep_run.specs.Rings.{Turns}
-use Rattle.ep_threads.specs.Weathers.{own_of}
+use Rattle.ep_host.specs.Weathers.{own_of}
 use Rattle.ep_run.specs.Weathers.{SetsOwn, HasOwn}
 
 -- once its tasks are assigned: more entries, and an agenda that has lost so many tasks at least, or all

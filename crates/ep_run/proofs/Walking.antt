@@ -3,9 +3,9 @@ use Rattle.std.proofs.Common.{◌≡◌, ◌∙◌, ℕ, suc, ◌+◌, ◌<◌, 
 use Rattle.std.specs.Prelude.{is_some, replicate}
 use Rattle.std.proofs.lemmas.Bool.{eq-eqb, ne_eqb, lt-ltb}
 use Rattle.std.proofs.lemmas.List.{append-nil, drop-drop, get_or-replicate}
-use Rattle.ep_threads.specs.Node.{Node}
-use Rattle.ep_threads.specs.Tasks.{Use, refusal_at, refusals_in, next_place}
-use Rattle.ep_threads.specs.declared.task.Task.{Task}
+use Rattle.ep_host.specs.Node.{Node}
+use Rattle.ep_host.specs.Tasks.{Use, refusal_at, refusals_in, next_place}
+use Rattle.ep_host.specs.declared.task.Task.{Task}
 use Rattle.ep_journal.specs.declared.step_fault.StepFault.{StepFault}
 use Rattle.ep_journal.specs.declared.refusal.Refusal.{Refusal}
 use Rattle.ep_rules.specs.declared.receipt.Receipt.{Receipt}

@@ -6,14 +6,14 @@ use Rattle.std.proofs.lemmas.List.{take_more, get_or_default}
 use Rattle.std.proofs.lemmas.List.Elements.{All-nil, All-cons, All-head, All-tail}
 use Rattle.std.proofs.lemmas.Map.Keys.{IsDistinct-head, IsDistinct-tail}
 use Rattle.ep_base.specs.Quorums.{size}
-use Rattle.ep_threads.specs.Host.{IsHost}
-use Rattle.ep_threads.specs.Node.{Node}
-use Rattle.ep_threads.specs.Setting.{IsUnset, SetsWeather, SetsWeatherAt}
-use Rattle.ep_threads.specs.Weathers.{NameOne, IsFrameIn, IsWeather, IsWeatherAt, own_of}
-use Rattle.ep_threads.specs.declared.weather.Weather.{Weather}
-use Rattle.ep_threads.specs.declared.host_fault.HostFault.{HostFault}
-use Rattle.ep_threads.specs.declared.host_fault.HostFault.TheVariants.{Memory, OutOfRange, Replica}
-use Rattle.ep_threads.proofs.Places.{Firsts, firsts_more}
+use Rattle.ep_host.specs.Host.{IsHost}
+use Rattle.ep_host.specs.Node.{Node}
+use Rattle.ep_host.specs.Setting.{IsUnset, SetsWeather, SetsWeatherAt}
+use Rattle.ep_host.specs.Weathers.{NameOne, IsFrameIn, IsWeather, IsWeatherAt, own_of}
+use Rattle.ep_host.specs.declared.weather.Weather.{Weather}
+use Rattle.ep_host.specs.declared.host_fault.HostFault.{HostFault}
+use Rattle.ep_host.specs.declared.host_fault.HostFault.TheVariants.{Memory, OutOfRange, Replica}
+use Rattle.ep_host.proofs.Places.{Firsts, firsts_more}
 use Rattle.ep_script.specs.Fits.{FitsWeather, FitsSection}
 use Rattle.ep_script.specs.Plan.{SectionPlan, same_frame}
 use Rattle.ep_script.specs.declared.weather_line.WeatherLine.{WeatherLine}

@@ -1,7 +1,7 @@
 -- What the lines of a section ask of their replicas. Requests are numbered by client, over all replicas.
 use Rattle.std.specs.Prelude.{◌≡◌, ℕ, ◌+◌, List, [], ◌∷◌, ◌++◌}
-use Rattle.ep_threads.specs.declared.task.Task.{Task}
-use Rattle.ep_threads.specs.declared.task.Task.TheVariants as task
+use Rattle.ep_host.specs.declared.task.Task.{Task}
+use Rattle.ep_host.specs.declared.task.Task.TheVariants as task
 use Rattle.ep_replay.specs.Clients.{times, greatest}
 use Rattle.ep_rules.specs.declared.receipt.Receipt.{Receipt}
 use Rattle.ep_script.specs.Plan.{SectionPlan}

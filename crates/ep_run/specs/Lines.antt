@@ -1,8 +1,8 @@
 -- What became of the lines of a run over rings.
 use Rattle.std.specs.Prelude.{◌≡◌, ◌≢◌, ℕ, ◌+◌, ◌≤◌, eqb, cond, List, [], ◌∷◌, ◌++◌, length, All, Contains}
 use mathlib.Core.List.{IsPrefix}
-use Rattle.ep_threads.specs.Tasks.{event_of}
-use Rattle.ep_threads.specs.declared.task.Task.{Task}
+use Rattle.ep_host.specs.Tasks.{event_of}
+use Rattle.ep_host.specs.declared.task.Task.{Task}
 use Rattle.ep_journal.specs.Entries.{journals_of}
 use Rattle.ep_journal.specs.Events as journal
 use Rattle.ep_journal.specs.declared.step_fault.StepFault.{StepFault}

@@ -6,8 +6,8 @@ use Rattle.ep_journal.specs.Openings.{Opening}
 use Rattle.ep_journal.specs.declared.refusal.Refusal.{Refusal}
 use Rattle.ep_journal.specs.declared.refusal.Refusal.TheVariants.{Step}
 use Rattle.ep_journal.specs.declared.step_fault.StepFault.TheVariants as step
-use Rattle.ep_threads.specs.declared.host_fault.HostFault.{HostFault}
-use Rattle.ep_threads.specs.declared.host_fault.HostFault.TheVariants.{Memory, OutOfRange, Replica}
+use Rattle.ep_host.specs.declared.host_fault.HostFault.{HostFault}
+use Rattle.ep_host.specs.declared.host_fault.HostFault.TheVariants.{Memory, OutOfRange, Replica}
 use Rattle.ep_replay.specs.Heads.{opening_of}
 use Rattle.ep_script.specs.Heads.{Head}
 

@@ -1,15 +1,15 @@
 -- How a run over rings gets on.
 use Rattle.std.specs.Prelude.{◌≡◌, ℕ, ◌<◌, ◌≤◌, eqb, cond, List, [], ◌∷◌, ◌++◌, length, drop, Option, Some, None, slice_index_or as get_or, min, ◌-◌, ◌^◌}
 use Rattle.std.specs.List.{sum_by}
-use Rattle.ep_threads.specs.Follows.{Follows, Settles}
-use Rattle.ep_threads.specs.Host.{IsHost, StartsAs}
-use Rattle.ep_threads.specs.Node.{Node}
-use Rattle.ep_threads.specs.Pointwise.{Each}
-use Rattle.ep_threads.specs.Setting.{IsReleased}
-use Rattle.ep_threads.specs.Turned.{IsTurned, AreSettled}
-use Rattle.ep_threads.specs.Tasks.{Use, tasks_in, events_in, refusals_in, place_after}
-use Rattle.ep_threads.specs.declared.task.Task.{Task}
-use Rattle.ep_threads.specs.declared.weather.Weather.{Weather}
+use Rattle.ep_host.specs.Follows.{Follows, Settles}
+use Rattle.ep_host.specs.Host.{IsHost, StartsAs}
+use Rattle.ep_host.specs.Node.{Node}
+use Rattle.ep_host.specs.Pointwise.{Each}
+use Rattle.ep_host.specs.Setting.{IsReleased}
+use Rattle.ep_host.specs.Turned.{IsTurned, AreSettled}
+use Rattle.ep_host.specs.Tasks.{Use, tasks_in, events_in, refusals_in, place_after}
+use Rattle.ep_host.specs.declared.task.Task.{Task}
+use Rattle.ep_host.specs.declared.weather.Weather.{Weather}
 use Rattle.ep_journal.specs.declared.step_fault.StepFault.{StepFault}
 use Rattle.ep_journal.specs.Entries.{Collected, entries_of}
 use Rattle.ep_journal.specs.Openings.{Opening, opens}

@@ -1,8 +1,8 @@
 -- What a run over rings is: sections, one after another.
 use Rattle.std.specs.Prelude.{◌≡◌, ℕ, List, [], ◌∷◌, ◌++◌, All}
-use Rattle.ep_threads.specs.Host.{IsHost, IsFresh, StartsAs}
-use Rattle.ep_threads.specs.Node.{Node}
-use Rattle.ep_threads.specs.RingFinishing.{replicas_in, entries_in}
+use Rattle.ep_host.specs.Host.{IsHost, IsFresh, StartsAs}
+use Rattle.ep_host.specs.Node.{Node}
+use Rattle.ep_host.specs.RingFinishing.{replicas_in, entries_in}
 use Rattle.ep_replay.specs.Heads.{opening_of}
 use Rattle.ep_rules.specs.declared.receipt.Receipt.{Receipt}
 use Rattle.ep_script.specs.Heads.{Head}

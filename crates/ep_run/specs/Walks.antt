@@ -1,8 +1,8 @@
 -- A walk over the lines of a script, beside the refusals that its nodes reported.
 use Rattle.std.specs.Prelude.{◌≡◌, ℕ, ◌<◌, ◌≤◌, eqb, cond, List, [], ◌∷◌, ◌++◌, length, drop, Option, Some, None, slice_index_or}
-use Rattle.ep_threads.specs.Node.{Node}
-use Rattle.ep_threads.specs.Tasks.{Use, refusals_in}
-use Rattle.ep_threads.specs.declared.task.Task.{Task}
+use Rattle.ep_host.specs.Node.{Node}
+use Rattle.ep_host.specs.Tasks.{Use, refusals_in}
+use Rattle.ep_host.specs.declared.task.Task.{Task}
 use Rattle.ep_journal.specs.declared.step_fault.StepFault.{StepFault}
 use Rattle.ep_journal.specs.declared.refusal.Refusal.{Refusal}
 use Rattle.ep_run.specs.Lines.{refused_in}

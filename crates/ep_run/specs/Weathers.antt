@@ -1,11 +1,11 @@
 -- The weather of a section, as a host takes it.
 use Rattle.std.specs.Prelude.{◌≡◌, List, [], ◌∷◌}
-use Rattle.ep_threads.specs.Node.{Node}
-use Rattle.ep_threads.specs.Setting.{SetsWeather}
-use Rattle.ep_threads.specs.Weathers.{own_of}
-use Rattle.ep_threads.specs.declared.weather.Weather.{Weather}
-use Rattle.ep_threads.specs.declared.weather_kind.WeatherKind.{WeatherKind as HostKind}
-use Rattle.ep_threads.specs.declared.weather_kind.WeatherKind.TheVariants as host
+use Rattle.ep_host.specs.Node.{Node}
+use Rattle.ep_host.specs.Setting.{SetsWeather}
+use Rattle.ep_host.specs.Weathers.{own_of}
+use Rattle.ep_host.specs.declared.weather.Weather.{Weather}
+use Rattle.ep_host.specs.declared.weather_kind.WeatherKind.{WeatherKind as HostKind}
+use Rattle.ep_host.specs.declared.weather_kind.WeatherKind.TheVariants as host
 use Rattle.ep_script.specs.declared.weather_word.WeatherWord.{WeatherWord}
 use Rattle.ep_script.specs.declared.weather_word.WeatherWord.TheVariants.{Drop, Hold, Repeat}
 use Rattle.ep_script.specs.declared.weather_line.WeatherLine.{WeatherLine}

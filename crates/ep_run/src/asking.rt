@@ -1,16 +1,16 @@
 //! What a line of a section asks of its replica.
 
 ghost use Rattle.std.specs.Prelude.{◌≡◌, ◌+◌, ◌++◌, ◌∷◌, [], ℕ, List, IfOk, OnOk};
-ghost use Rattle.ep_threads.specs.declared.task.Task.TheVariants.{Propose};
+ghost use Rattle.ep_host.specs.declared.task.Task.TheVariants.{Propose};
 ghost use Rattle.ep_replay.specs.Clients.{times, greatest};
 ghost use Rattle.ep_replay.specs.Tables.{AreCounted};
 ghost use Rattle.ep_rules.specs.declared.receipt.Receipt.{Receipt};
 ghost use Rattle.ep_run.specs.Asking.{asked_of, proposers_after};
 
 use ep_base::{Command, ReplicaId};
+use ep_host::Task;
 use ep_replay::Clients;
 use ep_script::AgendaLine;
-use ep_threads::Task;
 use std::alloc::{AllocError, Global};
 
 /// Who is asked for what by the line.

@@ -3,8 +3,8 @@
 ghost use Rattle.std.specs.Prelude.{◌≡◌, ◌-◌, IfOk, length, map, replicate, slice_index_or};
 ghost use Rattle.ep_run.specs.Rings.{entry_counts};
 
+use ep_host::RingNode;
 use ep_rules::Receipt;
-use ep_threads::RingNode;
 use std::alloc::{AllocError, Global};
 
 /// No entry of any of so many replicas.

@@ -27,7 +27,7 @@ fn next(place: u32) -> Result<u32, AllocError>
 
 impl Cursor {
     ghost use Rattle.std.specs.Prelude.{◌≡◌, List, drop, IfOk, OnOk};
-    ghost use Rattle.ep_threads.specs.Tasks.{Use};
+    ghost use Rattle.ep_host.specs.Tasks.{Use};
     ghost use Rattle.ep_run.specs.Walks.{fault_at, next_refusal, IsAt};
 
     /// Before any line.

@@ -7,7 +7,7 @@ ghost use Rattle.ep_base.specs.Quorums.{size};
 use crate::run_fault::RunFault;
 use crate::submission::Submission;
 use ep_base::{ReplicaId, Size};
-use ep_threads::{LockHost, Start, Turn};
+use ep_host::{LockHost, Start, Turn};
 use std::alloc::{AllocError, Global};
 use std::marker::{Send, Sync};
 use std::sync::Wait;

@@ -12,7 +12,7 @@
 //! (the weather of a section), and `lane.rt` (a replica's two threads) or specs/Sections.antt, specs/Rings.antt and `ring_run.rt` (a section
 //! over rings).
 //!
-//! What a line means is reported by docs/CLI.md, section 4; the threads' calls are those of `ep_threads`.
+//! What a line means is reported by docs/CLI.md, section 4; the threads' calls are those of `ep_host`.
 #![tactic(auto)]
 
 mod asking;

@@ -1,8 +1,8 @@
 //! What a run leaves.
 
+use ep_host::Finished;
 use ep_journal::Refusal;
 use ep_rules::Receipt;
-use ep_threads::Finished;
 
 /// What a run leaves.
 #[derive(Drop)]

@@ -1,8 +1,8 @@
 //! The lines of a run over rings that their nodes refused.
 
 ghost use Rattle.std.specs.Prelude.{◌≡◌, ℕ, ◌<◌, ◌≤◌, List, [], ◌∷◌, length, replicate, IfOk, OnOk, slice_index_or};
-ghost use Rattle.ep_threads.specs.Node.{Node};
-ghost use Rattle.ep_threads.specs.Tasks.{Use, refusals_in};
+ghost use Rattle.ep_host.specs.Node.{Node};
+ghost use Rattle.ep_host.specs.Tasks.{Use, refusals_in};
 ghost use Rattle.ep_rules.specs.declared.receipt.Receipt.{Receipt};
 ghost use Rattle.ep_run.specs.Asking.{asked_of, asked_by, asked_in};
 ghost use Rattle.ep_run.specs.Lines.{replica_of, refused_in};
@@ -11,9 +11,9 @@ ghost use Rattle.ep_run.specs.Walks.{next_refusal, AreAt, Lists};
 
 use crate::cursor::Cursor;
 use ep_base::ReplicaId;
+use ep_host::RingNode;
 use ep_journal::{Refusal, StepFault};
 use ep_script::{AgendaLine, ScriptSection};
-use ep_threads::RingNode;
 use std::alloc::{AllocError, Global};
 
 /// A cursor for each of so many nodes, before any line.

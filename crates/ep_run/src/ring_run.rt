@@ -1,15 +1,15 @@
 //! A run over nodes with rings, section by section.
 
 ghost use Rattle.std.specs.Prelude.{◌≡◌, ◌++◌, ◌∷◌, [], ◌≤◌, length, ℕ, List, All, IfOk, OnOk, IsOk};
-ghost use Rattle.ep_threads.specs.Finishing.{IsFinished};
-ghost use Rattle.ep_threads.specs.Host.{IsHost};
+ghost use Rattle.ep_host.specs.Finishing.{IsFinished};
+ghost use Rattle.ep_host.specs.Host.{IsHost};
 ghost use Rattle.ep_replay.specs.Tables.{AreCounted};
 ghost use Rattle.ep_rules.specs.declared.receipt.Receipt.{Receipt as Reported};
 ghost use Rattle.ep_script.specs.Fits.{FitsCluster, FitsSection};
 ghost use Rattle.ep_script.specs.declared.agenda_line.AgendaLine.{AgendaLine as Line};
 ghost use Rattle.ep_run.specs.Asking.{asked_by as asks_of, asked_of, proposers_after, proposers_of};
 ghost use Rattle.ep_run.specs.Rings.{AreAssigned, Begins, SettlesReleased, Turns, lost_in};
-ghost use Rattle.ep_threads.specs.Host.{IsFresh, StartsAs};
+ghost use Rattle.ep_host.specs.Host.{IsFresh, StartsAs};
 ghost use Rattle.ep_replay.specs.Heads.{opening_of};
 ghost use Rattle.ep_run.specs.Lines.{AreDone};
 ghost use Rattle.ep_run.specs.Weathers.{weather_in, HasOwn};
@@ -19,10 +19,10 @@ use crate::collecting::entry_counts;
 use crate::ran::Ran;
 use crate::refusals::refused_lines;
 use crate::ring_weather::set_weather;
+use ep_host::{Finished, Gate, RingHost, RingNode, finish_with, section as turn_all, settle};
 use ep_replay::{Clients, beginning_of};
 use ep_rules::Receipt;
 use ep_script::{AgendaLine, Head, RunScript, ScriptSection};
-use ep_threads::{Finished, Gate, RingHost, RingNode, finish_with, section as turn_all, settle};
 use std::alloc::{AllocError, Global};
 use std::marker::Sync;
 use std::mem;
@@ -36,7 +36,7 @@ impl Gate for Open {
 
     ghost lets = { λ _ _. ⊤ };
 
-    fn reported(&self, _node: usize, _agenda_empty: bool) -> bool {
+    fn told(&self, _node: usize, _agenda_empty: bool) -> bool {
         true
     }
 }
@@ -142,13 +142,13 @@ fn nodes_of(alloc: Global, head: &Head, capacity: usize) -> Result<Vec<RingNode>
 impl RingRun {
     ghost use Rattle.std.specs.Prelude.{◌≡◌, ◌++◌, ◌∷◌, [], ◌≤◌, ◌<◌, length, ℕ, List, All, IfOk, OnOk, IsOk};
     ghost use Rattle.ep_base.specs.Quorums.{size as size_with};
-    ghost use Rattle.ep_threads.specs.Finishing.{IsFinished};
+    ghost use Rattle.ep_host.specs.Finishing.{IsFinished};
     ghost use Rattle.ep_script.specs.Fits.{FitsSection};
     ghost use Rattle.ep_script.specs.Plan.{SectionPlan};
     ghost use Rattle.ep_run.specs.Lines.{AreDone};
-    ghost use Rattle.ep_threads.specs.Host.{IsFresh};
-    ghost use Rattle.ep_threads.specs.Node.{Node};
-    ghost use Rattle.ep_threads.specs.RingFinishing.{replicas_in, entries_in};
+    ghost use Rattle.ep_host.specs.Host.{IsFresh};
+    ghost use Rattle.ep_host.specs.Node.{Node};
+    ghost use Rattle.ep_host.specs.RingFinishing.{replicas_in, entries_in};
     ghost use Rattle.ep_run.specs.Rings.{Begun, Collects, HasRun, IsBegun, begun_of, entry_counts, given_after, given_at, proposers_in};
     ghost use Rattle.ep_run.specs.Sections.{IsSection, AreSections};
     ghost use Rattle.ep_run.specs.Weathers.{weather_in, HasOwn};

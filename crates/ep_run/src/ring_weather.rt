@@ -1,16 +1,16 @@
 //! How the weather of nodes with rings is set.
 
 ghost use Rattle.std.specs.Prelude.{◌≡◌, ◌<◌, length, ℕ, OnOk};
-ghost use Rattle.ep_threads.specs.Host.{IsHost};
-ghost use Rattle.ep_threads.specs.Pointwise.{Each};
-ghost use Rattle.ep_threads.specs.Setting.{SetsWeatherAt};
-ghost use Rattle.ep_threads.specs.Weathers.{IsWeather, own_of};
+ghost use Rattle.ep_host.specs.Host.{IsHost};
+ghost use Rattle.ep_host.specs.Pointwise.{Each};
+ghost use Rattle.ep_host.specs.Setting.{SetsWeatherAt};
+ghost use Rattle.ep_host.specs.Weathers.{IsWeather, own_of};
 ghost use Rattle.ep_script.specs.Fits.{FitsSection};
 ghost use Rattle.ep_run.specs.Weathers.{weather_in, SetsOwn};
 
 use crate::weather::{want_of_memory, weather_in};
+use ep_host::{RingHost, RingNode, Weather, own_of};
 use ep_script::ScriptSection;
-use ep_threads::{RingHost, RingNode, Weather, own_of};
 use std::alloc::{AllocError, Global};
 
 /// Sets the weather of the node at this place: what is its own of this.

@@ -1,7 +1,7 @@
 //! Runs over nodes with rings.
 
 ghost use Rattle.std.specs.Prelude.{◌≡◌, IfOk, IsOk};
-ghost use Rattle.ep_threads.specs.Finishing.{IsFinished};
+ghost use Rattle.ep_host.specs.Finishing.{IsFinished};
 ghost use Rattle.ep_run.specs.Lines.{AreDone};
 ghost use Rattle.ep_run.specs.Rings.{IsBegun, begun_of};
 ghost use Rattle.ep_run.specs.Sections.{IsRun};

@@ -3,7 +3,7 @@
 ghost use Rattle.std.specs.Prelude.{◌≡◌};
 ghost use Rattle.ep_run.specs.declared.run_fault.RunFault.TheVariants.{Memory};
 
-use ep_threads::HostFault;
+use ep_host::HostFault;
 use std::alloc::AllocError;
 use thiserror::Error;
 

@@ -2,7 +2,7 @@
 
 ghost use Rattle.std.specs.Prelude.{◌≡◌, ℕ, List, Some, IfOk, OnOk};
 ghost use Rattle.ep_base.specs.Quorums.{size as size_with};
-ghost use Rattle.ep_threads.specs.Finishing.{IsFinished};
+ghost use Rattle.ep_host.specs.Finishing.{IsFinished};
 ghost use Rattle.ep_replay.specs.Tables.{AreCounted};
 ghost use Rattle.ep_rules.specs.declared.receipt.Receipt.{Receipt as Reported};
 ghost use Rattle.ep_script.specs.Fits.{FitsSection};
@@ -19,11 +19,11 @@ use crate::run_fault::RunFault;
 use crate::submission::Submission;
 use crate::weather::{want_of_memory, weather_in};
 use ep_base::ReplicaId;
+use ep_host::{LockHost, Start, Turn};
 use ep_journal::Refusal;
 use ep_replay::{Clients, beginning_of};
 use ep_rules::Receipt;
 use ep_script::{Head, RunScript, ScriptSection};
-use ep_threads::{LockHost, Start, Turn};
 use std::alloc::{AllocError, Global};
 use std::marker::{Brand, Send, Sync};
 use std::sync::Wait;

@@ -5,11 +5,11 @@ ghost use Rattle.ep_run.specs.Locks.{cause_of as named};
 
 use crate::asking::asked_by;
 use ep_base::ReplicaId;
+use ep_host::{Act, HostFault, LockHost, Start, Task};
 use ep_journal::{Refusal, StepFault};
 use ep_replay::Clients;
 use ep_replica::Proposal;
 use ep_script::AgendaLine;
-use ep_threads::{Act, HostFault, LockHost, Start, Task};
 use std::alloc::{AllocError, Global};
 use std::sync::{Mutex, Wait};
 

@@ -1,11 +1,11 @@
 //! The weather of a section, as hosts take it.
 
 ghost use Rattle.std.specs.Prelude.{◌≡◌, IfOk};
-ghost use Rattle.ep_threads.specs.declared.host_fault.HostFault.TheVariants.{Memory};
+ghost use Rattle.ep_host.specs.declared.host_fault.HostFault.TheVariants.{Memory};
 ghost use Rattle.ep_run.specs.Weathers.{kind_of, weather_of, weather_in};
 
+use ep_host::{HostFault, Weather, WeatherKind};
 use ep_script::{WeatherLine, WeatherWord as LineKind};
-use ep_threads::{HostFault, Weather, WeatherKind};
 use std::alloc::{AllocError, Global};
 
 /// What becomes of a frame, as hosts name it.

@@ -85,6 +85,13 @@ impl Keyed {
         self.table.get(id)
     }
 
+    /// Whether the instance has a place.
+    pub fn has_place(&self, id: InstanceId) -> bool
+        ensures { result ≡ set.contains self.now.places id }
+    {
+        self.table.has_place(id)
+    }
+
     /// The instances that have a place, each with its record, if it has one.
     pub fn entries(&self) -> &[(InstanceId, Option<Record>)]
         ensures { AreRecords self.now.held result.now }

@@ -1,6 +1,6 @@
 //! The records of a replica.
 
-ghost use Rattle.std.specs.Prelude.{ℕ, ◌≡◌, ◌≤◌, ◌<◌, ◌-◌, true, Ok, Err, Some, None, IfOk, IsErr, OnOk, OnErr, if◌then◌else◌};
+ghost use Rattle.std.specs.Prelude.{ℕ, ◌≡◌, ◌≤◌, ◌<◌, ◌-◌, ◌∷◌, true, false, Ok, Err, Some, None, IfOk, IfSome, IfNone, IsErr, OnOk, OnErr, if◌then◌else◌};
 ghost use Rattle.std.specs.Option.{option_copied};
 ghost use Rattle.std.specs.FinSet as set;
 ghost use Rattle.ep_base.specs.Instances.{number_of, highest_number, IsInstance};
@@ -13,7 +13,7 @@ ghost use Rattle.ep_rules.specs.Phases.{with_commit};
 ghost use Rattle.ep_rules.specs.States.{or_zero, is_free, free_number, committed_in, with_entry};
 ghost use Rattle.ep_space.specs.Gathering.{next_attrs};
 ghost use Rattle.ep_space.specs.Held.{HasPlace};
-ghost use Rattle.ep_space.specs.Keys.{recorded_keys, keys_at, HasRoom};
+ghost use Rattle.ep_space.specs.Keys.{recorded_keys, keys_at, holders, HasRoom};
 ghost use Rattle.ep_space.specs.Open.{AreRecords};
 ghost use Rattle.ep_space.specs.Records.{record_at, with_record, with_earlier, IsReady};
 ghost use Rattle.ep_space.specs.Settled.{settled};
@@ -21,6 +21,7 @@ ghost use Rattle.ep_space.specs.Settled.{settled};
 use crate::gathered::{Gathered, gathered_from};
 use crate::interference_fault::InterferenceFault;
 use crate::keyed::Keyed;
+use crate::names::Name;
 use crate::space_full::SpaceFull;
 use ep_base::{
     Attrs, Ballot, Command, Decree, Deps, InstanceId, ReplicaId, Seq, Size, Version, Vote,
@@ -106,6 +107,31 @@ impl Space {
         ensures { AreRecords self.now.records result.now }
     {
         self.table.entries()
+    }
+
+    /// The instances whose recorded commands have the key, as the index has them: those that write it, and those that
+    /// only read it. Both lists rise.
+    pub fn key_run(&self, key: &[u8]) -> (&[InstanceId], &[InstanceId])
+        ensures writes { result.0.now ≡ holders (0 ∷ key.now) self.now.records }
+        ensures reads { result.1.now ≡ holders (1 ∷ key.now) self.now.records }
+    {
+        let writes = self.table.run(Name::Writes(key));
+        let reads = self.table.run(Name::Reads(key));
+        (writes, reads)
+    }
+
+    /// The instance that has this place in the table, if one has it: `InstanceId::place` says which place is an
+    /// instance's.
+    pub fn instance_at(&self, place: u32) -> Option<InstanceId>
+        ensures some { IfSome result (λ i. (i ≡ place) × HasPlace self.now.places i) }
+        ensures none { IfNone result (IsInstance place → set.contains self.now.places place ≡ false) }
+    {
+        let id = InstanceId::at(place).ok()?;
+        if self.table.has_place(id) {
+            Some(id)
+        } else {
+            None
+        }
     }
 
     /// A number above which no instance has a record: of what follows, nothing has to be looked up.

@@ -1,7 +1,7 @@
 use Rattle.std.proofs.Common.{◌≡◌, ◌∙◌, List, ℕ, ◌+◌, ◌≤◌, [], ◌∷◌, ◌++◌, length, refl, sym, ap, subst, take, add-one, arith}
 use Rattle.std.proofs.Math.Seq.{take-suc}
 use Rattle.std.proofs.lemmas.List.{take_all}
-use Rattle.ep_threads.specs.declared.task.Task.{Task}
+use Rattle.ep_host.specs.declared.task.Task.{Task}
 use Rattle.ep_script.specs.declared.agenda_line.AgendaLine.{AgendaLine}
 use Rattle.ep_run.specs.Asking.{asked_of, proposers_of, asked_by}
 use Rattle.ep_run.specs.Walks.{Lists}

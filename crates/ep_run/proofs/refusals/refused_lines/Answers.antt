@@ -1,5 +1,5 @@
 use Rattle.std.proofs.Common.{◌∙◌, List, ℕ, [], ◌++◌, ap}
-use Rattle.ep_threads.specs.Node.{Node}
+use Rattle.ep_host.specs.Node.{Node}
 use Rattle.ep_journal.specs.declared.refusal.Refusal.{Refusal}
 use Rattle.ep_run.specs.Asking.{asked_in}
 use Rattle.ep_run.specs.Lines.{refused_in}

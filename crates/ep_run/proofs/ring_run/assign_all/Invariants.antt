@@ -1,5 +1,5 @@
 use Rattle.std.proofs.Common.{ℕ, List, take}
-use Rattle.ep_threads.specs.Host.{IsHost}
+use Rattle.ep_host.specs.Host.{IsHost}
 use Rattle.ep_replay.specs.Tables.{AreCounted}
 use Rattle.ep_rules.specs.declared.receipt.Receipt.{Receipt as Reported}
 use Rattle.ep_run.specs.Asking.{asked_by, proposers_of}

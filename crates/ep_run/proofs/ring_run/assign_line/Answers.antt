@@ -1,6 +1,6 @@
 use Rattle.std.proofs.Common.{◌≡◌, ◌<◌, ℕ, length, ap, subst, ◌∙◌, arith}
-use Rattle.ep_threads.specs.Turns.{AssignsAt}
-use Rattle.ep_threads.specs.declared.task.Task.{Task}
+use Rattle.ep_host.specs.Turns.{AssignsAt}
+use Rattle.ep_host.specs.declared.task.Task.{Task}
 use Rattle.ep_run.specs.Asking.{asked_of}
 use Rattle.ep_run.specs.Lines.{replica_of}
 use Rattle.ep_run.proofs.Running.{asks_replica, fits_replica, assigned_at}

@@ -1,6 +1,6 @@
 use Rattle.std.proofs.Common.{◌≡◌, ◌∙◌, ℕ, ◌+◌, List, ap, subst, min, rules, Bor}
 use Rattle.std.proofs.lemmas.Fn.{fold_over, slice_gives, fronts}
-use Rattle.ep_threads.specs.Node.{Node}
+use Rattle.ep_host.specs.Node.{Node}
 use Rattle.ep_run.specs.Rings.{lost_in}
 use Rattle.ep_run.proofs.Counting.{lost_none, lost_more}
 use Rattle.ep_run.proofs.ring_run.lost_of.Goals as goal

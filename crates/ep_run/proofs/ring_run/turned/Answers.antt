@@ -1,7 +1,7 @@
 use Rattle.std.proofs.Common.{rules, List, subst, sym}
 use Rattle.std.proofs.lemmas.List.{with_items_is}
-use Rattle.ep_threads.specs.Host.{IsHost}
-use Rattle.ep_threads.specs.Node.{Node}
+use Rattle.ep_host.specs.Host.{IsHost}
+use Rattle.ep_host.specs.Node.{Node}
 use Rattle.ep_run.specs.Rings.{SettlesReleased, Turns}
 use Rattle.ep_run.proofs.ring_run.turned.Goals as goal
 

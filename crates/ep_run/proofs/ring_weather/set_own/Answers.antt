@@ -1,8 +1,8 @@
 use Rattle.std.proofs.Common.{rules, ◌≡◌, ◌∙◌, ℕ, List, ap, subst, get_or}
-use Rattle.ep_threads.specs.Node.{Node}
-use Rattle.ep_threads.specs.Setting.{SetsWeatherAt}
-use Rattle.ep_threads.specs.Weathers.{own_of}
-use Rattle.ep_threads.specs.declared.weather.Weather.{Weather}
+use Rattle.ep_host.specs.Node.{Node}
+use Rattle.ep_host.specs.Setting.{SetsWeatherAt}
+use Rattle.ep_host.specs.Weathers.{own_of}
+use Rattle.ep_host.specs.declared.weather.Weather.{Weather}
 use Rattle.ep_run.proofs.Running.{blank}
 use Rattle.ep_run.proofs.Weathering.{only_memory}
 use Rattle.ep_run.proofs.ring_weather.set_own.Goals as goal

@@ -1,9 +1,9 @@
 use Rattle.std.proofs.Common.{◌≡◌, ◌∙◌, ℕ, List, subst, sym, ap}
 use Rattle.ep_base.specs.Quorums.{size}
-use Rattle.ep_threads.specs.Setting.{SetsWeatherAt}
-use Rattle.ep_threads.specs.Weathers.{IsWeather, own_of}
-use Rattle.ep_threads.specs.declared.weather.Weather.{Weather}
-use Rattle.ep_threads.proofs.Places.{firsts_none, firsts_all}
+use Rattle.ep_host.specs.Setting.{SetsWeatherAt}
+use Rattle.ep_host.specs.Weathers.{IsWeather, own_of}
+use Rattle.ep_host.specs.declared.weather.Weather.{Weather}
+use Rattle.ep_host.proofs.Places.{firsts_none, firsts_all}
 use Rattle.ep_script.specs.Fits.{FitsSection}
 use Rattle.ep_run.specs.Weathers.{weather_in, SetsOwn}
 use Rattle.ep_run.proofs.Weathering.{section_weather, set_more}

@@ -1,6 +1,6 @@
 use Rattle.std.proofs.Common.{ℕ}
-use Rattle.ep_threads.specs.Host.{IsHost}
-use Rattle.ep_threads.proofs.Places.{Firsts}
+use Rattle.ep_host.specs.Host.{IsHost}
+use Rattle.ep_host.proofs.Places.{Firsts}
 use Rattle.ep_run.specs.Weathers.{weather_in, SetsOwn}
 use Rattle.ep_run.proofs.ring_weather.set_weather.Given as goal
 

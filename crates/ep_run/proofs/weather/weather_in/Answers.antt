@@ -1,6 +1,6 @@
 use Rattle.std.proofs.Common.{◌≡◌, ◌∙◌, ℕ, List, [], ◌∷◌, ◌++◌, take, ap, sym}
 use Rattle.std.proofs.lemmas.List.{take_all}
-use Rattle.ep_threads.specs.declared.weather.Weather.{Weather}
+use Rattle.ep_host.specs.declared.weather.Weather.{Weather}
 use Rattle.ep_script.specs.declared.weather_line.WeatherLine.{WeatherLine}
 use Rattle.ep_run.specs.Weathers.{weather_in}
 use Rattle.ep_run.proofs.Weathering.{line_more}

@@ -1,5 +1,5 @@
 use Rattle.std.proofs.Common.{◌≡◌, ◌∙◌, ℕ, drop, sym, subst}
-use Rattle.ep_threads.specs.Tasks.{refusals_in}
+use Rattle.ep_host.specs.Tasks.{refusals_in}
 use Rattle.ep_run.specs.declared.cursor.Cursor.{Cursor}
 use Rattle.ep_run.proofs.Walking.{passed_fault, passed_none, passed_some}
 use Rattle.ep_run.proofs.cursor.Cursor.pass.Goals as goal

@@ -1,6 +1,6 @@
 use Rattle.std.proofs.Common.{rules, ◌≡◌, ◌<◌, ◌∙◌, ◌++◌, ℕ, List, ap, subst, sym, length, get_or, arith}
 use Rattle.std.proofs.lemmas.List.{get_or_default}
-use Rattle.ep_threads.specs.Node.{Node}
+use Rattle.ep_host.specs.Node.{Node}
 use Rattle.ep_journal.specs.Entries.{entries_of}
 use Rattle.ep_replay.specs.Tables.{AreCounted}
 use Rattle.ep_replica.specs.Receipts.{receipts_after}

@@ -1,6 +1,6 @@
 use Rattle.std.proofs.Common.{rules, ◌≡◌, ◌∙◌, ℕ, ◌<◌, List, length, take, ap, refl, sym, subst, arith}
 use Rattle.std.proofs.Math.Seq.{take-length}
-use Rattle.ep_threads.specs.Node.{Node}
+use Rattle.ep_host.specs.Node.{Node}
 use Rattle.ep_run.specs.Rings.{Collects, given_after, given_at}
 use Rattle.ep_run.proofs.Running.{blank, collects_none, collects_more}
 use Rattle.ep_run.proofs.ring_run.RingRun.collect_all.Goals as goal

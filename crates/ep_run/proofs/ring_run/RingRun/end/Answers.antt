@@ -1,5 +1,5 @@
 use Rattle.std.proofs.Common.{List, subst, sym, refl, ◌∙◌}
-use Rattle.ep_threads.specs.RingFinishing.{replicas_in, their_journals}
+use Rattle.ep_host.specs.RingFinishing.{replicas_in, their_journals}
 use Rattle.ep_rules.specs.Verdicts.{AreOwn}
 use Rattle.ep_rules.specs.declared.receipt.Receipt.{Receipt as Reported}
 use Rattle.ep_run.proofs.Running.{of_own, version_is, opening_is}

@@ -1,9 +1,9 @@
 use Rattle.std.proofs.Common.{rules, ◌≡◌, ◌∙◌, ◌++◌, ℕ, List, length, subst, sym, ap, []}
 use Rattle.std.proofs.lemmas.List.{with_items_is}
-use Rattle.ep_threads.specs.Host.{IsHost}
-use Rattle.ep_threads.specs.Node.{Node}
-use Rattle.ep_threads.specs.Pointwise.{Each}
-use Rattle.ep_threads.specs.declared.weather.Weather.{Weather}
+use Rattle.ep_host.specs.Host.{IsHost}
+use Rattle.ep_host.specs.Node.{Node}
+use Rattle.ep_host.specs.Pointwise.{Each}
+use Rattle.ep_host.specs.declared.weather.Weather.{Weather}
 use Rattle.ep_replay.specs.Tables.{AreCounted}
 use Rattle.ep_script.specs.Fits.{FitsSection}
 use Rattle.ep_script.specs.Plan.{SectionPlan}

@@ -1,5 +1,5 @@
 use Rattle.std.proofs.Common.{◌≡◌, ◌∙◌, ap, subst, sym}
-use Rattle.ep_threads.specs.Weathers.{IsWeather}
+use Rattle.ep_host.specs.Weathers.{IsWeather}
 use Rattle.ep_script.specs.Plan.{SectionPlan}
 use Rattle.ep_run.specs.Weathers.{weather_in}
 use Rattle.ep_run.proofs.Weathering.{memory_alone, section_weather}

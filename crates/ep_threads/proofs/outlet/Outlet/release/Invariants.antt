@@ -1,5 +1,0 @@
-use Rattle.ep_threads.proofs.Mailing.{LettingGo}
-use Rattle.ep_threads.proofs.outlet.Outlet.release.Given as goal
-
-abbrev pub invariant-loop : goal.invariant-loop
-invariant-loop g l = LettingGo l.lost l.counter l.initial.self l.self

@@ -1,7 +1,0 @@
-use Rattle.std.proofs.Common.{◌≤◌, ◌*◌, take}
-use Rattle.ep_threads.specs.Fates.{IsSent}
-use Rattle.ep_threads.specs.Rings.{ArePeers}
-use Rattle.ep_threads.proofs.putting.send.Given as goal
-
-abbrev pub invariant-loop-frame : goal.invariant-loop-frame
-invariant-loop-frame l = record { sent : IsSent l.weather (take l.frame-index l.frames) l.lost l.initial.links.items l.links.items; few : l.lost ≤ 2 * l.frame-index; peers : ArePeers l.me l.links.items }

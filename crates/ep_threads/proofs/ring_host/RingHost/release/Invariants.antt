@@ -1,6 +1,0 @@
-use Rattle.ep_threads.specs.Setting.{IsReleased}
-use Rattle.ep_threads.proofs.Places.{Firsts}
-use Rattle.ep_threads.proofs.ring_host.RingHost.release.Given as goal
-
-abbrev pub invariant-loop-place : goal.invariant-loop-place
-invariant-loop-place l = Firsts IsReleased l.place l.initial.nodes l.nodes

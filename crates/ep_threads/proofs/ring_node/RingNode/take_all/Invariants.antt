@@ -1,6 +1,0 @@
-use Rattle.std.proofs.Common.{◌≡◌, length}
-use Rattle.ep_threads.specs.Turns.{Takes}
-use Rattle.ep_threads.proofs.ring_node.RingNode.take_all.Given as goal
-
-abbrev pub invariant-loop-place : goal.invariant-loop-place
-invariant-loop-place l = record { takes : Takes l.place l.moved l.initial.self l.self; end : l.place-end ≡ length l.initial.self.links }

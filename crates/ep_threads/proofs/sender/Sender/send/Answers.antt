@@ -1,5 +1,0 @@
-use Rattle.ep_threads.proofs.Mailing.{mailed_lost}
-use Rattle.ep_threads.proofs.sender.Sender.send.Goals as goal
-
-pub returns : goal.returns
-returns g c = mailed_lost c.args.sending.frames.items c.args.sending.lost c.args.self.now c.send_all.new.self c.lose.new.self c.send_all.ensures c.lose.ensures

@@ -1,7 +1,0 @@
-use Rattle.ep_threads.specs.Follows.{Settles}
-use Rattle.ep_threads.specs.Pointwise.{Each}
-use Rattle.ep_threads.proofs.Looks.{AreLeft}
-use Rattle.ep_threads.proofs.settling.turn_all.Given as goal
-
-abbrev pub invariant-loop-done : goal.invariant-loop-done
-invariant-loop-done l = record { settles : Each (Settles l._done) l.initial.nodes l.nodes; rounds : AreLeft l._done l.rounds l.initial.nodes l.nodes }
