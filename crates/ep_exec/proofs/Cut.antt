@@ -11,7 +11,7 @@ use Rattle.ep_exec.specs.Found.{IsLeast, ranks_test, ranked}
 use Rattle.ep_exec.specs.Cut.{cut_attrs, cut}
 use Rattle.ep_exec.specs.Ready.{is_out, ranked_left_of}
 use Rattle.ep_exec.specs.Walk.{AreComponents}
-use Rattle.ep_exec.proofs.Clear.{out_yes, out_then}
+use Rattle.ep_exec.proofs.Clear.{out_yes}
 
 -- Attributes.
 
@@ -43,13 +43,6 @@ some_of (Some a) n = (a, refl)
 
 some_none : (o : Option Attrs) (a : Attrs) → o ≡ Some a → o ≡ None → ⊥
 some_none o a e n = let t : Some a ≡ None = sym e ∙ n in absurd (cc)
-
--- what the root reaches by what is left isn't skipped
-pub reached_left : (g : Graph) (skipped : List ℕ) {i j : ℕ} → ¬ Has skipped i → Reaches (cut g skipped) i j → ¬ Has skipped j
-reached_left g skipped n itself = n
-reached_left g skipped n (onward {j = j} {k = k} a r e q) =
-    let c = cut_some skipped (g j) a e in
-    out_then skipped k (has_filter (is_out skipped) (c.0).deps k (subst (λ xs. Has xs k) c.2 q)).1
 
 module _ (g : Graph) (skipped : List ℕ) (closed : IsClosed g skipped) where
   -- Reach.

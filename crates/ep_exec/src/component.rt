@@ -71,20 +71,20 @@ impl Component {
         }
     }
 
-    /// Passes what is in the order by now, up to the first that isn't.
-    pub fn pass(&mut self, order: &Marked)
-        ensures { self.new ≡ with_passed order.now self.old }
+    /// Passes what is in a finished component by now, up to the first that isn't.
+    pub fn pass(&mut self, finished: &Marked)
+        ensures { self.new ≡ with_passed finished.now self.old }
     {
-        self.passed = pass_from(order, &self.waits, self.passed);
+        self.passed = pass_from(finished, &self.waits, self.passed);
     }
 }
 
-/// The place of the first from this place on that isn't in the order, or the list's length.
-fn pass_from(order: &Marked, waits: &[InstanceId], from: usize) -> usize
-    ensures { drop result waits.now ≡ passed order.now (drop from waits.now) }
+/// The place of the first from this place on that isn't in a finished component, or the list's length.
+fn pass_from(finished: &Marked, waits: &[InstanceId], from: usize) -> usize
+    ensures { drop result waits.now ≡ passed finished.now (drop from waits.now) }
 {
     let mut place = from;
-    while place < waits.len() && order.contains(waits[place]) {
+    while place < waits.len() && finished.contains(waits[place]) {
         place += 1;
     }
     place

@@ -50,21 +50,65 @@ fn members_of(alloc: Global, found: &[Vec<InstanceId>]) -> Result<Vec<InstanceId
     Ok(all)
 }
 
-/// Whether the instance is committed, and all that it depends on was executed.
-fn is_alone(space: &Space, executed: &Executed, instance: InstanceId) -> bool
-    ensures { result ≡ is_alone executed.now.list (graph_in space.now.records instance) }
+/// Whether the instance is committed, and all that it depends on is skipped.
+fn is_alone(space: &Space, skipped: &Executed, instance: InstanceId) -> bool
+    ensures { result ≡ is_alone skipped.now.list (graph_in space.now.records instance) }
 {
     match attrs_at(space, instance) {
-        Some(attrs) => executed.contains_all(attrs.deps.as_slice()),
+        Some(attrs) => skipped.contains_all(attrs.deps.as_slice()),
         None => false,
     }
 }
 
-/// The execution order of a root, after these were executed (EPaxos, section 4.3.2): nothing where the root was executed, and else all that it
-/// reaches and that is left, component after component, of the ready ones first that with the least instance left, and inside one by sequence number,
-/// replica and number. What was executed is closed, and isn't walked through; where the root depends on nothing else, nothing is walked.
+/// The plan, by a walk that leaves out what is skipped: a closed part of what was executed. Where the root depends on
+/// nothing else, nothing is walked.
+fn plan_past(
+    alloc: Global,
+    space: &Space,
+    skipped: &Executed,
+    executed: &Executed,
+    root: InstanceId,
+) -> Result<Vec<InstanceId>, PlanFault>
+    requires closed { IsClosed (graph_in space.now.records) skipped.now.list }
+    requires within { (i : ℕ) → Has skipped.now.list i → Has executed.now.list i }
+    ensures order { IfOk result (λ v. IsPlan (graph_in space.now.records) executed.now.list root v.items) }
+    ensures refused { IfErr result (λ e. Refuses (graph_in space.now.records) executed.now.list root e) }
+{
+    if executed.contains(root) {
+        return Ok(Vec::new(alloc));
+    }
+    if is_alone(space, skipped, root) {
+        return Ok(Vec::from_slice(alloc, &[root])?);
+    }
+    let components = components(alloc, space, skipped, root)?;
+    let reach = Reach { root, components };
+    let members = members_of(alloc, &reach.components)?;
+    if let Some(instance) = least_missing(space, &members) {
+        return Err(PlanFault::NotCommitted(instance));
+    }
+    Ok(order_of(alloc, space, skipped, executed, &reach)?)
+}
+
+/// The execution order of a root, after these were executed (EPaxos, section 4.3.2): nothing where the root was
+/// executed, and else all that it reaches and that is left, component after component, of the ready ones first that
+/// with the least instance left, and inside one by sequence number, replica and number. What was executed is walked
+/// through: it may depend on instances that are left, or not committed.
 ///
 /// `NotCommitted` where the root reaches an instance that is not committed, with the least of them.
+pub fn plan(
+    alloc: Global,
+    space: &Space,
+    executed: &Executed,
+    root: InstanceId,
+) -> Result<Vec<InstanceId>, PlanFault>
+    ensures order { IfOk result (λ v. IsPlan (graph_in space.now.records) executed.now.list root v.items) }
+    ensures refused { IfErr result (λ e. Refuses (graph_in space.now.records) executed.now.list root e) }
+{
+    let skipped = Executed::new(alloc);
+    plan_past(alloc, space, &skipped, executed, root)
+}
+
+/// As `plan`, where what was executed is closed: it isn't walked through.
 pub fn plan_left(
     alloc: Global,
     space: &Space,
@@ -75,17 +119,5 @@ pub fn plan_left(
     ensures order { IfOk result (λ v. IsPlan (graph_in space.now.records) executed.now.list root v.items) }
     ensures refused { IfErr result (λ e. Refuses (graph_in space.now.records) executed.now.list root e) }
 {
-    if executed.contains(root) {
-        return Ok(Vec::new(alloc));
-    }
-    if is_alone(space, executed, root) {
-        return Ok(Vec::from_slice(alloc, &[root])?);
-    }
-    let components = components(alloc, space, executed, root)?;
-    let reach = Reach { root, components };
-    let members = members_of(alloc, &reach.components)?;
-    if let Some(instance) = least_missing(space, &members) {
-        return Err(PlanFault::NotCommitted(instance));
-    }
-    Ok(order_of(alloc, space, executed, &reach)?)
+    plan_past(alloc, space, executed, executed, root)
 }

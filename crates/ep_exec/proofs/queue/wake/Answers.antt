@@ -13,11 +13,11 @@ loop-instance-preserved c = λ g all s.
     let rest : List ℕ = drop (i + 1) xs in
     let parted : drop i xs ≡ m ∷ rest = next (λ (ys : List ℕ). ys) xs i m c.loop-instance-test.true c.instance-item.is in
     c.in_ok-look_at_all.ensures g all rest
-    (woken g all c.args.order.now m rest (ready_at c.loop-instance.ready) (waiting_at c.loop-instance.waiters) (waiting_at c.take_waiting-parts.new.waiters) c.take_waiting-parts.result.items c.take_waiting-parts.ensures.parts c.take_waiting-parts.ensures.others
-    (subst (λ (ys : List ℕ). Stands g all c.args.order.now [] ys (ready_at c.loop-instance.ready) (waiting_at c.loop-instance.waiters)) parted (c.loop-instance.invariant g all s)))
+    (woken g c.args.executed.now.list all c.args.finished.now m rest (ready_at c.loop-instance.queue.ready) (waiting_at c.loop-instance.queue.waiters) (waiting_at c.take_waiting-parts.new.waiters) c.take_waiting-parts.result.items c.take_waiting-parts.ensures.parts c.take_waiting-parts.ensures.others
+    (subst (λ (ys : List ℕ). Stands g c.args.executed.now.list all c.args.finished.now [] ys (ready_at c.loop-instance.queue.ready) (waiting_at c.loop-instance.queue.waiters)) parted (c.loop-instance.invariant g all s)))
 
 pub returns : goal.returns
 returns c = λ g all s.
-    subst (λ (ys : List ℕ). Stands g all c.args.order.now [] ys (ready_at c.loop-instance.ready) (waiting_at c.loop-instance.waiters))
+    subst (λ (ys : List ℕ). Stands g c.args.executed.now.list all c.args.finished.now [] ys (ready_at c.loop-instance.queue.ready) (waiting_at c.loop-instance.queue.waiters))
     (drop_all c.loop-instance.instance-index c.args.list.now (let past = c.loop-instance-test.false in omega arith))
     (c.loop-instance.invariant g all s)

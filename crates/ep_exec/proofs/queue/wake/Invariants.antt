@@ -5,4 +5,4 @@ use Rattle.ep_exec.proofs.queue.wake.Given as goal
 
 abbrev pub invariant-loop-instance : goal.invariant-loop-instance
 invariant-loop-instance l =
-    (g : Graph) (all : List ℕ) → Stands g all l.order [] l.list (ready_at l.fn.ready) (waiting_at l.fn.waiters) → Stands g all l.order [] (drop l.instance-index l.list) (ready_at l.ready) (waiting_at l.waiters)
+    (g : Graph) (all : List ℕ) → Stands g l.executed.list all l.finished [] l.list (ready_at l.fn.queue.ready) (waiting_at l.fn.queue.waiters) → Stands g l.executed.list all l.finished [] (drop l.instance-index l.list) (ready_at l.queue.ready) (waiting_at l.queue.waiters)

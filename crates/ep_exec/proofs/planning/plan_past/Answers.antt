@@ -9,7 +9,7 @@ use Rattle.ep_exec.specs.Found.{IsLeast}
 use Rattle.ep_exec.specs.Walk.{lists}
 use Rattle.ep_exec.proofs.Alone.{plan_alone}
 use Rattle.ep_exec.proofs.Cut.{plan_up, blocked_up}
-use Rattle.ep_exec.proofs.planning.plan_left.Goals as goal
+use Rattle.ep_exec.proofs.planning.plan_past.Goals as goal
 
 pub returns-then-is_alone-clause-order : goal.returns-then-is_alone-clause-order
 returns-then-is_alone-clause-order c =
@@ -17,28 +17,27 @@ returns-then-is_alone-clause-order c =
     let executed : List ℕ = c.args.executed.now.list in
     let left : ¬ Has executed c.args.root = (λ h. false≢true (sym c.if-contains.false ∙ c.contains.ensures.1 h)) in
     subst (IsPlan g executed c.args.root) (sym c.in_ok-from_slice.ensures.items)
-    (plan_alone g executed executed c.args.root c.requires.closed (λ i h. h) left (sym c.is_alone.ensures ∙ c.if-is_alone.true))
+    (plan_alone g c.args.skipped.now.list executed c.args.root c.requires.closed c.requires.within left (sym c.is_alone.ensures ∙ c.if-is_alone.true))
 
 pub returns-in-Some-clause-refused : goal.returns-in-Some-clause-refused
 returns-in-Some-clause-refused c =
     let g = graph_in c.args.space.now.records in
+    let skipped : List ℕ = c.args.skipped.now.list in
     let executed : List ℕ = c.args.executed.now.list in
     let cs = lists c.in_ok-components.components.items in
     let left : ¬ Has executed c.args.root = (λ h. false≢true (sym c.if-contains.false ∙ c.contains.ensures.1 h)) in
     let all : c.deref-2.result.now ≡ flat_map (λ c. c) cs = c.deref-2.ensures.value ∙ c.in_ok-members.ensures ∙ ap (λ (vs : List (Vec ℕ Global)). flat_map (λ c. c) (lists vs)) c.deref.ensures.value in
-    blocked_up g executed c.requires.closed executed (λ i h. h) c.args.root left cs c.in_ok-components.ensures c.deref-2.result.now all c.in-Some.instance
+    blocked_up g skipped c.requires.closed executed c.requires.within c.args.root left cs c.in_ok-components.ensures c.deref-2.result.now all c.in-Some.instance
     (subst (λ o. IsLeast (λ i. g i ≡ None) c.deref-2.result.now o) c.in-Some.is c.least_missing.ensures)
 
 pub returns-clause-order : goal.returns-clause-order
 returns-clause-order c =
     let g = graph_in c.args.space.now.records in
+    let skipped : List ℕ = c.args.skipped.now.list in
     let executed : List ℕ = c.args.executed.now.list in
     let cs = lists c.in_ok-components.components.items in
     let left : ¬ Has executed c.args.root = (λ h. false≢true (sym c.if-contains.false ∙ c.contains.ensures.1 h)) in
     let all : c.deref-2.result.now ≡ flat_map (λ c. c) cs = c.deref-2.ensures.value ∙ c.in_ok-members.ensures ∙ ap (λ (vs : List (Vec ℕ Global)). flat_map (λ c. c) (lists vs)) c.deref.ensures.value in
-    plan_up g executed c.requires.closed executed (λ i h. h) c.args.root left cs c.in_ok-components.ensures c.deref-2.result.now all c.in_ok-order_of.field-0.items
+    plan_up g skipped c.requires.closed executed c.requires.within c.args.root left cs c.in_ok-components.ensures c.deref-2.result.now all c.in_ok-order_of.field-0.items
     (subst (λ o. IsLeast (λ i. g i ≡ None) c.deref-2.result.now o) c.in_default.is c.least_missing.ensures)
     c.in_ok-order_of.ensures
-
-pub order_of-requires-clause-left : goal.order_of-requires-clause-left
-order_of-requires-clause-left c = λ h. false≢true (sym c.if-contains.false ∙ c.contains.ensures.1 h)
