@@ -2,7 +2,7 @@
 
   .ci/run             runs the parts that PARTS lists, one after the other; docs/GATE.md tells what each is for and what it takes. Where the first,
                       which looks whether pages and copies are up to date, fails, no other is run
-  .ci/run --all       the same, and tries all wrong bodies, not only those that changed and ten more
+  .ci/run --all       the same, and tries all wrong bodies, not only some that changed and ten more
   .ci/run --built     runs only the parts that go over the programs that an earlier `rt ci` built
 
 At its end it says what processor time each part took, and its last line is 'N passed, M failed'. The status is 0 where M is 0.
@@ -78,7 +78,7 @@ VIEWED = "examples/crossing_puts.script"
 ROWS_VIEWED = ("audit-of-another-value", "audit-of-another-entry", "audit-cut", "audit-not-a-run")
 
 
-# lines on what failed, said again at the end: who reads only that finds them
+# lines on what failed, and warnings, said again at the end: who reads only that finds them
 AGAIN = []
 
 
@@ -110,7 +110,7 @@ def counted(*words):
     """Runs a tool whose last line counts what it tried, shows what it says, and returns the two numbers."""
     ran = subprocess.run(words, stdin=subprocess.DEVNULL, stdout=subprocess.PIPE, text=True, errors="replace")
     print(f"{words[0]}: {ran.stdout}", end="", flush=True)
-    AGAIN.extend(f"{words[0]}: {it}" for it in ran.stdout.splitlines() if it.startswith("FAILED: "))
+    AGAIN.extend(f"{words[0]}: {it}" for it in ran.stdout.splitlines() if it.startswith(("FAILED: ", "warning: ")))
     counts = re.search(r"(\d+) passed, (\d+) failed\n\Z", ran.stdout)
     passed, failed = map(int, counts.groups()) if counts else (0, 0)
     return passed, failed or int(ran.returncode != 0 or not counts)
@@ -123,9 +123,8 @@ def tests():
 
 
 def wrong_bodies():
-    """The wrong bodies that changed, or stand on what changed, and some that the commit draws; or all."""
-    commit = subprocess.run(["git", "rev-parse", "HEAD"], stdout=subprocess.PIPE, stderr=subprocess.DEVNULL, text=True).stdout.strip()
-    return counted("tools/wrong-bodies", *(["--all"] if sys.argv[1:] == ["--all"] else ["--gate", commit or "none"]))
+    """The wrong bodies that changed, or stand on what changed, and always the same few; or all."""
+    return counted("tools/wrong-bodies", "--all" if sys.argv[1:] == ["--all"] else "--gate")
 
 
 def swept(kind, words, given=None):
