@@ -267,7 +267,7 @@ def lives():
         print("no life is played: `rt ci` has not built both programs", flush=True)
         return 0, 0
     with tempfile.TemporaryDirectory(prefix="epaxos-lives-") as scratch:
-        words = ["tools/lives", "--short", "--epaxos", store.joined(scratch, node, program)]
+        words = ["tools/lives", "--seed", "1", "--short", "--epaxos", store.joined(scratch, node, program)]
         return [sum(it) for it in zip(counted(*words), counted(*words, "--power"))]
 
 

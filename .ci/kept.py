@@ -1,5 +1,5 @@
-"""What a proved build takes of what `rt ci` kept, and of an earlier build: in repositories of a few crates, of which
-nothing is proved; files stand in for what a proof makes. Runs alone too: python3 .ci/kept.py
+"""What a proved build takes of an earlier build, and of what `rt ci` kept, where the kit keeps something: in repositories
+of a few crates, of which nothing is proved; files stand in for what a proof makes. Runs alone too: python3 .ci/kept.py
 """
 
 import os
@@ -11,6 +11,8 @@ sys.dont_write_bytecode = True
 TOP = os.path.dirname(os.path.dirname(os.path.abspath(__file__)))
 sys.path.insert(0, f"{TOP}/tools")
 
+import needs
+
 CRATES = "low:\nhigh: low\napp: high\nffi staticlib: high\n"
 PROVED = "logic=proved functions=1"
 
@@ -18,8 +20,8 @@ PROVED = "logic=proved functions=1"
 class Room:
     """A repository, what stands in for proofs in it, and the verdicts of a build."""
 
-    def __init__(self, top, kit, verdicts):
-        self.top, self.kit, self.verdicts = top, kit, verdicts
+    def __init__(self, top, kit, verdicts, has_store):
+        self.top, self.kit, self.verdicts, self.has_store = top, kit, verdicts, has_store
         for name, handles in (("crates.txt", CRATES), ("HANDLES", "Handles allowed: none.\n")):
             self.write(name, handles)
         for it in ("low", "high", "app", "ffi"):
@@ -37,6 +39,8 @@ class Room:
     def begin(self):
         """Begins a build."""
         self.crates, self.held = self.kit.crates_of(self.top), self.verdicts.Verdicts(self.top)
+        if not self.has_store:
+            self.held.kept = self.kit.NoStore()
         self.held.drop_others(self.crates)
 
     def prove(self, name, more=""):
@@ -83,19 +87,30 @@ class Room:
         return {name: it == self.verdicts.KEPT for name, it in self.held.told().items()}
 
 
-def taken(room):
-    """Where the same was kept, and where something of it is another."""
-    all_but_library = {"low": True, "high": True, "app": True, "ffi": False}
-    yield "nothing is kept", [*room.build(["ffi.a"])], []
-    yield "a second build", [*room.build(["ffi.a"])], ["low", "high", "app", "ffi"]
-    room.ci()
-    shutil.rmtree(f"{room.top}/crates/low/out")
-    yield "all is kept", [*room.build(["ffi.a"])], ["low", "high", "app", "ffi"]
-    yield "what is told of that", room.told(), all_but_library
+ALL = ["low", "high", "app", "ffi"]
+
+
+def noted(room):
+    """What an earlier build made stands, or is another."""
+    yield "nothing is there", [*room.build(["ffi.a"])], []
+    yield "a second build", [*room.build(["ffi.a"])], ALL
+    yield "what is told of that", room.told(), dict.fromkeys(ALL, False)
     os.remove(f"{room.top}/ffi.a")
     yield "the C library is gone", [*room.build(["ffi.a"])], ["low", "high", "app"]
     room.write("crates/app/out/app", "another")
-    yield "another program in its place", [*room.build(["ffi.a"])], ["low", "high", "app", "ffi"]
+    yield "another program in its place", [*room.build(["ffi.a"])], ["low", "high", "ffi"]
+    with open(f"{room.top}/crates/app/out/app", encoding="utf-8") as file:
+        yield "the program that is proved", file.read(), "// app\n"
+
+
+def kept(room):
+    """What `rt ci` kept is taken."""
+    room.ci()
+    shutil.rmtree(f"{room.top}/crates/low/out")
+    yield "all is kept", [*room.build(["ffi.a"])], ALL
+    yield "what is told of that", room.told(), {"low": True, "high": True, "app": True, "ffi": False}
+    room.write("crates/app/out/app", "another")
+    yield "another program in the place of a kept one", [*room.build(["ffi.a"])], ALL
     with open(f"{room.top}/crates/app/out/app", encoding="utf-8") as file:
         yield "the program that was kept", file.read(), "// app\n"
 
@@ -105,9 +120,9 @@ def not_taken(room):
     for name, left in (("app", ["low", "high", "ffi"]), ("high", ["low"]), ("low", [])):
         room.write(room.source(name), "// another\n")
         yield f"another source of {name}", [*room.build(["ffi.a"])], left
-        yield f"and again, of {name}", [*room.build(["ffi.a"])], ["low", "high", "app", "ffi"]
+        yield f"and again, of {name}", [*room.build(["ffi.a"])], ALL
         room.write(room.source(name), f"// {name}\n")
-        as_it_was = ["low", "high", "app"] + ["ffi"] * (name == "app")
+        as_it_was = ["low", "high", "app"] + ["ffi"] * (name == "app") if room.has_store else left
         yield f"the source of {name} as it was", [*room.build(["ffi.a"])], as_it_was
     room.write("HANDLES", "Handles allowed: Wait.\n")
     yield "a crate that isn't proved", [*room.build(["ffi.a"], failing="high")], []
@@ -120,43 +135,65 @@ def not_taken(room):
 
 
 def touched(room):
-    """Where a source is touched while its crate is proved, and where what was kept is damaged."""
+    """Where a source is touched while its crate is proved."""
     room.begin()
     low = room.crates["low"]
     read = room.held.read(low)
     room.prove("low")
     room.write(room.source("low"), "// low\n")
     yield "a source that was written again", room.held.note(low, read, PROVED), False
-    place = room.held.kept.place(low, False, read[0])
+
+
+def damaged(room):
+    """Where what was kept is damaged."""
+    low = room.crates["low"]
+    place = room.held.kept.place(low, False, room.held.read(low)[0])
     with open(f"{place}/0", "a", encoding="utf-8") as file:
         file.write("damaged")
     yield "a file that was damaged", [*room.build(["ffi.a"])], ["high", "app"]
     yield "what is told of that", room.told(), {"low": False, "high": True, "app": True, "ffi": False}
 
 
-def tried():
-    """Makes all builds, prints a line for each that goes wrong, and returns how many passed and how many failed."""
-    if not shutil.which("rt"):
-        print("kept proofs: there is no kit here", flush=True)
-        return 0, 0
+def played(folder, has_store):
+    """The rows of a repository, with the kit's store or without one."""
     import kit
     import verdicts
 
+    room = Room(f"{folder}/{has_store}", kit, verdicts, has_store)
+    for part in (noted, kept, not_taken, touched, damaged) if has_store else (noted, not_taken, touched):
+        for row in part(room):
+            yield "with a store" if has_store else "without a store", *row
+
+
+def rows(folder):
+    """All rows; those of the kit's store where it has one, which is another one meanwhile."""
+    from kit import KIT
+
+    yield from played(folder, False)
+    if not hasattr(KIT, "STORE"):
+        needs.skip("kept proofs, what `rt ci` keeps", "this kit keeps nothing")
+        return
+    store, leaves = KIT.STORE, KIT.STORE_LEAVES
+    # (however little room the disk has)
+    KIT.STORE, KIT.STORE_LEAVES = f"{folder}/store", 0
+    try:
+        yield from played(folder, True)
+    finally:
+        KIT.STORE, KIT.STORE_LEAVES = store, leaves
+
+
+def tried():
+    """Makes all builds, prints a line for each that goes wrong, and returns how many passed and how many failed."""
+    if not shutil.which("rt"):
+        needs.skip("kept proofs", "there is no kit")
+        return 0, 0
     passed = failed = 0
-    store, leaves = kit.KIT.STORE, kit.KIT.STORE_LEAVES
     with tempfile.TemporaryDirectory(prefix="epaxos-kept-") as folder:
-        # (however little room the disk has)
-        kit.KIT.STORE, kit.KIT.STORE_LEAVES = f"{folder}/store", 0
-        try:
-            room = Room(f"{folder}/repository", kit, verdicts)
-            for part in (taken, not_taken, touched):
-                for name, found, wanted in part(room):
-                    is_well = found == wanted
-                    passed, failed = passed + is_well, failed + (not is_well)
-                    if not is_well:
-                        print(f"kept proofs, {name}: {found!r} and not {wanted!r}", flush=True)
-        finally:
-            kit.KIT.STORE, kit.KIT.STORE_LEAVES = store, leaves
+        for where, name, found, wanted in rows(folder):
+            is_well = found == wanted
+            passed, failed = passed + is_well, failed + (not is_well)
+            if not is_well:
+                print(f"kept proofs, {where}, {name}: {found!r} and not {wanted!r}", flush=True)
     print(f"kept proofs: {passed} passed, {failed} failed", flush=True)
     return passed, failed
 

@@ -1,16 +1,14 @@
-"""Simulated clusters of hosts (`epaxos::sim` of bindings/rust/epaxos), where cargo and the library are: fresh seeds for
-60 seconds, beginning at another one each time; up to 20 seeds in as long, whose logs and receipts are audited, as
-chains; and all planted faults, each of which has to be found by one of the first 1,000 seeds. The seed of a run that
-fails is printed, with the run shrunk, and those that time has broken off. Then a host's folder, as the power is lost
-(.ci/disks/hosts.py). Runs alone too: python3 .ci/sim.py [NODE PROGRAM [FOLDER [SECONDS]]], of other builds, with the
-folder that libepaxos.a is in.
+"""Simulated clusters of hosts (`epaxos::sim` of bindings/rust/epaxos), where cargo and the library are: the first 600
+seeds; the first 20 once more, whose logs and receipts are audited, as chains; and all planted faults, each of which has
+to be found by one of the first 1,000 seeds. The seed of a run that fails is printed, with the run shrunk. Then a host's
+folder, as the power is lost (.ci/disks/hosts.py). Runs alone too: python3 .ci/sim.py [NODE PROGRAM [FOLDER [SEEDS]]],
+of other builds, with the folder that libepaxos.a is in.
 """
 
 import os
 import shutil
 import sys
 import tempfile
-import time
 
 sys.dont_write_bytecode = True
 
@@ -18,20 +16,17 @@ from disks import hosts
 from store import BUILT, TOP, is_well, joined, library_there
 
 CRATE = f"{TOP}/bindings/rust/epaxos"
-SECONDS = 60
-AUDITED = 20
+SEEDS, AUDITED = 600, 20
 # (link-time optimisation takes longer than it saves here)
 QUICK = {"CARGO_INCREMENTAL": "0", "CARGO_PROFILE_RELEASE_LTO": "off", "CARGO_PROFILE_RELEASE_CODEGEN_UNITS": "16"}
 
 
-def tried(node=BUILT[0], program=BUILT[1], library=None, seconds=SECONDS):
+def tried(node=BUILT[0], program=BUILT[1], library=None, seeds=SEEDS):
     """How many of these passed, and how many failed."""
     library = library or library_there()
     if not library or not shutil.which("cargo"):
         print("no cluster is simulated: there is no library, or no cargo", flush=True)
         return 0, 0
-    # (the time names the seeds: each run of the gate has others)
-    first = int(time.time()) % 1_000_000_000 * 1_000
     with tempfile.TemporaryDirectory(prefix="epaxos-sim-") as scratch:
         folders = {"CARGO_TARGET_DIR": f"{scratch}/target", "EPAXOS_LIBRARY": library}
         environment = {**os.environ, **QUICK, **folders}
@@ -41,11 +36,10 @@ def tried(node=BUILT[0], program=BUILT[1], library=None, seconds=SECONDS):
         sim = [f"{scratch}/target/release/examples/sim"]
         if all(well):
             threads = ["--threads", str(max(1, len(os.sched_getaffinity(0)) // 2))]
-            fresh = [*sim, "--first", str(first), *threads, "--seconds", str(seconds)]
-            well.append(is_well(fresh, env=environment))
+            well.append(is_well([*sim, *threads, "--seeds", str(seeds)], env=environment))
             if os.path.isfile(node) and os.path.isfile(program):
                 audit = ["--audit", joined(scratch, node, program)]
-                well.append(is_well([*fresh, "--seeds", str(AUDITED), *audit], env=environment))
+                well.append(is_well([*sim, *threads, "--seeds", str(AUDITED), *audit], env=environment))
             well.append(is_well([*sim, *threads, "--seeds", "1000", "--plant", "all"], env=environment))
             passed, failed = hosts.tried(f"{scratch}/target/release/examples/power")
             well += [True] * passed + [False] * failed
@@ -54,6 +48,6 @@ def tried(node=BUILT[0], program=BUILT[1], library=None, seconds=SECONDS):
 
 if __name__ == "__main__":
     words = sys.argv[1:]
-    counts = tried(*map(os.path.abspath, words[:3]), **({"seconds": int(words[3])} if words[3:] else {}))
+    counts = tried(*map(os.path.abspath, words[:3]), **({"seeds": int(words[3])} if words[3:] else {}))
     print("{} passed, {} failed".format(*counts))
     sys.exit(1 if counts[1] else 0)

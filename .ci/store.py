@@ -32,17 +32,17 @@ STRANGERS = "6"
 GO_LOOKS = (["sh", "-c", '! gofmt -l . | grep .'], ["go", "vet", "./..."])
 GO_TESTS = ["go", "test", "-count=1", "-timeout", "300s", "./..."]
 # how long each trial plays, and how many of its stores are killed
-TRIAL = ("--short", "--seconds", "30", "--kills", "3", "--audit")
+TRIAL = ("--seed", "1", "--short", "--seconds", "30", "--kills", "3", "--audit")
 # money goes between accounts by transactions of all kinds
-BANK = ("--bank", "--seconds", "10", "--kills", "2", "--replaced", "0", "--changes", "1", "--audit")
+BANK = ("--seed", "1", "--bank", "--seconds", "10", "--kills", "2", "--replaced", "0", "--changes", "1", "--audit")
 # the stores write the whole map now and then, so that some are killed in that, and some come by logs
 CHECKPOINTS = ("--checkpoint", "20000")
 # a trial over links as long as those between regions, with a region lost, where other work may take a quarter, and one of stores that have little of a processor
-DISTANCE = ("--sites", "CA,VA,EU", "--reads", "50", "--seconds", "9", "--most", "125")
+DISTANCE = ("--seed", "1", "--sites", "CA,VA,EU", "--reads", "50", "--seconds", "9", "--most", "125")
 DISTANCE += ("--trouble", "kill", "--at", "VA")
-STARVED = ("--starved",)
+STARVED = ("--seed", "1", "--starved")
 # a map that grows over a change of generation, all of which a machine 20 ms away then gets
-GROWING = ("--growing", "6000", "--replaced", "1", "--delay", "20")
+GROWING = ("--seed", "1", "--growing", "6000", "--replaced", "1", "--delay", "20")
 CHEAP = {"CARGO_INCREMENTAL": "0", "CARGO_PROFILE_DEV_DEBUG": "0"}
 # as ./epaxos goes about it
 EPAXOS = """#!/bin/sh

@@ -1,6 +1,8 @@
 """The kit's command rt as a module."""
 
+import contextlib
 import functools
+import hashlib
 import os
 import shutil
 import subprocess
@@ -25,6 +27,59 @@ def crates_of(top):
     """The crates of a folder like the repository's, lowest first, held to its HANDLES."""
     KIT.Crate.allowed = KIT.handles_of(top)
     return {it.name: it for it in KIT.rtlib.crates_below(f"{top}/crates")}
+
+
+def files_of(crate):
+    """The files that a check of the crate reads."""
+    parts = (f"{crate.folder}/{it}" for it in KIT.rtlib.PARTS)
+    return sorted(f"{at}/{it}" for part in parts for at, _, names in os.walk(part) for it in names)
+
+
+def touched(crate):
+    """What says whether a file of the crate is touched later."""
+    return [(it, os.stat(it).st_mtime_ns) for it in files_of(crate)]
+
+
+@functools.cache
+def sum_of_kit():
+    return [KIT.rtlib.text_of(f"{KIT.KIT}/KIT-ID"), KIT.rtlib.sum_of(KIT.rtlib.RATTLE)]
+
+
+class NoStore:
+    """What stands in for the store of proofs of a kit that has none: nothing is kept there, and the sums are made here."""
+
+    at = None
+
+    def __init__(self):
+        self.built = {}
+
+    def key(self, crate):
+        """The sum of all that the crate's proof reads: the kit, HANDLES, its line, its files, and the libraries below as they were built."""
+        files = [(os.path.relpath(it, crate.folder), KIT.rtlib.sum_of(it)) for it in files_of(crate)]
+        below = [(it.name, self.built.get(it.name)) for it in crate.below()]
+        read = (sum_of_kit(), crate.allowed, sorted(crate.said.items()), files, below)
+        return hashlib.sha256(repr(read).encode()).hexdigest()
+
+    def made(self, crate, _):
+        """The files of out/ that are made of the crate, but for the C library."""
+        if crate.is_program:
+            return [it for it in (crate.name, f"{crate.name}.by-rattle") if os.path.isfile(f"{crate.folder}/out/{it}")]
+        walk = os.walk(crate.rlib)
+        return sorted(os.path.relpath(f"{at}/{it}", f"{crate.folder}/out") for at, _, names in walk for it in names)
+
+    def is_built(self, crate):
+        """Takes what stands in out/ for what the crates above are proved over."""
+        self.built[crate.name] = [KIT.rtlib.sum_of(f"{crate.folder}/out/{it}") for it in self.made(crate, False)]
+
+    @contextlib.contextmanager
+    def in_turn(self, *_):
+        """Nobody else's proof is waited for."""
+        yield False
+
+
+def store():
+    """The kit's store of proofs, or what stands in for it."""
+    return KIT.Kept([]) if hasattr(KIT, "Kept") else NoStore()
 
 
 def is_left(crate):

@@ -105,7 +105,7 @@ class Proving:
         crates, tasks = sorted(below.values(), key=lambda it: len(it.below())), {}
         self.verdicts.drop_others(below)
         self.progress.count = len(crates)
-        what = "what `rt ci` has proved of them on this machine is taken, the others are proved now"
+        what = "what is proved of them is taken, the others are proved now"
         self.progress.line(f"{len(crates)} crates: {what}")
         self.progress.start()
         # (its first call sets a signal's handler, which only the main thread may)

@@ -1,14 +1,15 @@
 """The verdicts on the crates of a build: where each comes from, and what stands by it.
 
 out/verdicts has a file for each crate. Its first line is KEPT, or the prover's last line where the build proved the
-crate; the second is the sum of all that the proof read, as `rt ci` computes it; then come the files that were made of
-the crate, each behind its sum (of a library that `rt ci` kept none: it is taken anew by each build).
+crate; the second is the sum of all that the proof read, as `rt ci` computes it, or, where the kit keeps nothing, as
+kit.py does; then come the files that were made of the crate, each behind its sum (of a library that `rt ci` kept none:
+it is taken anew by each build).
 """
 
 import contextlib
 import os
 
-from kit import KIT, give
+from kit import KIT, give, store, touched
 
 KEPT = "kept by rt ci"
 
@@ -18,18 +19,14 @@ class Verdicts:
     they stand. `own`: what a build makes of a crate that `rt ci` doesn't; of such a crate nothing kept is taken."""
 
     def __init__(self, top):
-        self.top, self.folder = top, f"{top}/out/verdicts"
-        # (some kits keep nothing: nothing is taken there)
-        self.kept = KIT.Kept([]) if hasattr(KIT, "Kept") else None
+        self.top, self.folder, self.kept = top, f"{top}/out/verdicts", store()
 
     def read(self, crate):
         """The sum of all that the crate's proof reads, and what says whether a file of its own is touched later."""
-        return (self.kept.key(crate), KIT.touched(crate)) if self.kept else None
+        return self.kept.key(crate), touched(crate)
 
     def take(self, crate, read, own=()):
         """Takes what `rt ci` kept of the same, or what an earlier build made, and returns whether there was either."""
-        if not self.kept:
-            return False
         if not own and give(self.kept, crate, read[0]):
             self.write(crate, read, KEPT, self.made(crate, own) if crate.is_program else ())
         elif not self.is_noted(crate, read, own):
@@ -39,25 +36,22 @@ class Verdicts:
 
     def waited(self, crate, read):
         """Waits while another run on this machine proves the same, at most an hour. Returns whether one did."""
-        if not self.kept:
-            return False
         with self.kept.in_turn(crate, False, read[0]) as has_waited:
             return has_waited
 
     def note(self, crate, read, said, own=()):
         """Notes what the build made of a crate, and returns whether all that the proof read stands as it stood."""
-        if self.kept and self.read(crate) != read:
+        if self.read(crate) != read:
             return False
-        if self.kept:
-            self.kept.is_built(crate)
-        self.write(crate, read or ("",), said, self.made(crate, own))
+        self.kept.is_built(crate)
+        self.write(crate, read, said, self.made(crate, own))
         return True
 
     def made(self, crate, own):
         """The files that were made of the crate, each behind its sum."""
         if crate.is_program:
             own = [f"{crate.folder}/out/{crate.name}"]
-        elif self.kept and not own:
+        elif not own:
             own = [f"{crate.folder}/out/{it}" for it in self.kept.made(crate, False)]
         return [f"{KIT.rtlib.sum_of(it)}  {os.path.relpath(it, self.top)}" for it in own]
 

@@ -85,7 +85,7 @@ class Cluster:
         self.links = [[Link(self.peers[to]) if to != at else None for to in range(3)] for at in range(3)]
         self.running = {}
         with open(f"{self.folder}/key", "w", encoding="utf-8", opener=lambda path, flags: os.open(path, flags, 0o600)) as file:
-            file.write(os.urandom(24).hex())
+            file.write(random.randbytes(24).hex())
 
     def start(self, at):
         link = lambda to: self.links[at][to].port if to != at else self.peers[at]
@@ -193,16 +193,16 @@ def at_peers(cluster, until):
             it = socket.create_connection(("127.0.0.1", port), timeout=2)
             kind = random.randrange(4)
             if kind == 0:
-                it.sendall(os.urandom(random.randrange(1, 3000)))
+                it.sendall(random.randbytes(random.randrange(1, 3000)))
             elif kind == 1:
-                hello = b"EPST\x04" + bytes([3, random.randrange(3), cluster.peers.index(port)]) + os.urandom(16)
+                hello = b"EPST\x04" + bytes([3, random.randrange(3), cluster.peers.index(port)]) + random.randbytes(16)
                 it.sendall(hello)
                 it.settimeout(0.5)
                 answer = it.recv(4096)
                 learned = max(learned, len(answer))
                 # a message of kind 0, a length, and a tag by chance; then a frame whose stamp is near the end
-                forged = b"EP\x03\x05" + bytes([1, 0]) + struct.pack(">HIQ", 1, 1, (1 << 48) - 5) + os.urandom(40)
-                it.sendall(struct.pack(">IB", 16, 0) + os.urandom(32) + struct.pack(">IB", len(forged), 1) + forged + os.urandom(16))
+                forged = b"EP\x03\x05" + bytes([1, 0]) + struct.pack(">HIQ", 1, 1, (1 << 48) - 5) + random.randbytes(40)
+                it.sendall(struct.pack(">IB", 16, 0) + random.randbytes(32) + struct.pack(">IB", len(forged), 1) + forged + random.randbytes(16))
             elif kind == 2 and Link.recorded:
                 it.sendall(random.choice(Link.recorded[-50:]))
             else:
@@ -240,7 +240,7 @@ def at_clients(cluster, until):
             with contextlib.suppress(OSError):
                 them.append(socket.create_connection(("127.0.0.1", cluster.clients[number % 2]), timeout=2))
                 them[-1].setblocking(False)
-                them[-1].send(os.urandom(500) if first is None else first)
+                them[-1].send(random.randbytes(500) if first is None else first)
         time.sleep(0.5)
         for it in them:
             closed(it)
@@ -294,6 +294,7 @@ def main():
     most = resource.getrlimit(resource.RLIMIT_NOFILE)[1]
     resource.setrlimit(resource.RLIMIT_NOFILE, (most if most < 16_384 else 16_384, most))
     seconds = float(sys.argv[2]) if len(sys.argv) > 2 else 20
+    random.seed(1)
     cluster = Cluster(os.path.abspath(sys.argv[1]))
     try:
         for at in range(3):

@@ -98,8 +98,8 @@ fn plan_of(options: &Options, seed: u64) -> Plan {
     if options.lies { plan.lying() } else { plan }
 }
 
-/// Runs seeds until one fails or time is up: how many, what was seen, and the one that failed. What runs on then is
-/// broken off, and named.
+/// Runs seeds until one fails or time is up: how many, what was seen, and the least that failed. What runs on when time
+/// is up is broken off, and named.
 fn seeds(options: &Arc<Options>, plant: Option<Plant>) -> (u64, Seen, Option<u64>) {
     let (next, is_over) = (Arc::new(AtomicU64::new(options.first)), Arc::new(AtomicBool::new(false)));
     let (sender, receiver) = mpsc::channel();
@@ -120,6 +120,7 @@ fn seeds(options: &Arc<Options>, plant: Option<Plant>) -> (u64, Seen, Option<u64
     }
     drop(sender);
     let (begun, mut count, mut all, mut running) = (Instant::now(), 0, Seen::default(), BTreeMap::new());
+    let mut failed = None;
     loop {
         let left = options.time.map_or(Duration::MAX, |time| time.saturating_sub(begun.elapsed()));
         if left.is_zero() {
@@ -132,11 +133,12 @@ fn seeds(options: &Arc<Options>, plant: Option<Plant>) -> (u64, Seen, Option<u64
                 all += seen;
                 running.remove(&seed);
                 if let Some(failure) = failure {
+                    // (of those that other threads have begun, one below it may fail too)
                     is_over.store(true, Ordering::Relaxed);
                     if plant.is_none() {
                         println!("seed {seed} fails: {failure}");
                     }
-                    return (count, all, Some(seed));
+                    failed = Some(failed.map_or(seed, |it: u64| it.min(seed)));
                 }
             }
             Err(_) => break,
@@ -146,7 +148,7 @@ fn seeds(options: &Arc<Options>, plant: Option<Plant>) -> (u64, Seen, Option<u64
     running.iter().for_each(|(seed, since)| {
         println!("seed {seed} broken off after {:.1} s", since.elapsed().as_secs_f64());
     });
-    (count, all, None)
+    (count, all, failed)
 }
 
 /// Shows the run of a seed, shrunk.
