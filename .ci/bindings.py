@@ -1,4 +1,4 @@
-"""The bindings for Rust and Python in bindings/, over the library, where there is one: the crate's tests and pages where cargo is there, and the example of each, begun,
+"""The bindings for Rust and Python in bindings/, over the library: the crate's tests and pages, and the example of each, begun,
 gone on with, and audited by the programs that `rt ci` built. Runs alone too: python3 .ci/bindings.py [NODE PROGRAM [FOLDER]], of other builds, with the folder that
 libepaxos.a and libepaxos.so are in.
 """
@@ -12,9 +12,11 @@ import sys
 import tempfile
 
 sys.dont_write_bytecode = True
+sys.path.insert(0, f"{os.path.dirname(os.path.dirname(os.path.abspath(__file__)))}/tools")
 
+import needs
 from nodes import worked
-from store import BUILT, CHEAP, TOP, is_well, joined, library_there
+from store import BUILT, CHEAP, TOP, has_library, has_programs, is_well, joined, library_there
 
 CRATE, PYTHON = f"{TOP}/bindings/rust/epaxos", f"{TOP}/bindings/python"
 # how a page that lacks something, or links to nothing, isn't made
@@ -453,16 +455,13 @@ except epaxos.OpenFault as fault:
 def tried(node=BUILT[0], program=BUILT[1], library=None):
     """How many of these passed, and how many failed."""
     library = library or library_there()
-    if not library or not os.path.isfile(node) or not os.path.isfile(program):
-        print("the bindings are not tried: there is no library, or `rt ci` has not built both programs", flush=True)
+    if not (has_programs(node, program, "the bindings") and has_library(library, "the bindings")):
         return 0, 0
     with tempfile.TemporaryDirectory(prefix="epaxos-bindings-") as scratch:
         environment = {**os.environ, **QUIET, "EPAXOS": joined(scratch, node, program), "EPAXOS_LIBRARY": library}
         well = [*vectors(), *python(scratch, environment)]
-        if shutil.which("cargo"):
+        if needs.has("cargo", "bindings/rust"):
             well += rust(scratch, environment)
-        else:
-            print("bindings/rust is not tried: there is no cargo", flush=True)
     return well.count(True), well.count(False)
 
 

@@ -5,7 +5,8 @@
   .ci/run --all       the same, and tries all wrong bodies, not only some that changed and ten more
   .ci/run --built     runs only the parts that go over the programs that an earlier `rt ci` built
 
-At its end it says what processor time each part took, and its last line is 'N passed, M failed'. The status is 0 where M is 0.
+As root on Debian it first installs what tools/needs.txt lists. At its end it says what processor time each part took, and what
+it skipped; its last line is 'N passed, M failed', with ', K skipped' where something was. The status is 0 where M is 0.
 """
 
 import os
@@ -20,7 +21,7 @@ from dataclasses import dataclass
 
 sys.dont_write_bytecode = True
 TOP = os.path.dirname(os.path.dirname(os.path.abspath(__file__)))
-sys.path.insert(0, f"{TOP}/.ci")
+sys.path[:0] = [f"{TOP}/.ci", f"{TOP}/tools"]
 
 import bindings
 import clock
@@ -31,6 +32,7 @@ import lanes
 import launcher
 import library
 import moved
+import needs
 import page
 import release
 import rows
@@ -246,7 +248,7 @@ def both_programs():
     for program, by in PROGRAMS.items():
         if not os.path.isfile(program):
             # (where Rattle's own compiler does not compile a program, `rt ci` says so, and the LLVM build alone is run)
-            print(f"there is no {os.path.relpath(program, TOP)}", flush=True)
+            needs.skip(f"rows{by}", f"there is no {os.path.relpath(program, TOP)}")
             failed += program == PROGRAM
             continue
         counts = rows.tried(program, by=by)
@@ -263,8 +265,7 @@ def sweeps(*sweeps):
 def lives():
     """Two short lives of nodes that are killed, through generations; in one of them most kills are power losses."""
     node, program = store.BUILT
-    if not os.path.isfile(node) or not os.path.isfile(program):
-        print("no life is played: `rt ci` has not built both programs", flush=True)
+    if not store.has_programs(node, program, "lives"):
         return 0, 0
     with tempfile.TemporaryDirectory(prefix="epaxos-lives-") as scratch:
         words = ["tools/lives", "--seed", "1", "--short", "--epaxos", store.joined(scratch, node, program)]
@@ -319,7 +320,8 @@ def main(words):
     signal.signal(signal.SIGTERM, lambda *_: sys.exit(143))
     lanes.one_processor_a_check()
     told, passed, failed = [], 0, 0
-    with clock.Clock() as spent:
+    needs.install(needs.lacking("gate"))
+    with clock.Clock() as spent, needs.noting() as skipped:
         for part in PARTS:
             if words == ["--built"] and not part.is_of_built:
                 continue
@@ -337,8 +339,8 @@ def main(words):
             told.append("%s: %d passed, %d failed, %.1f minutes of processor time, %.1f by the clock" % (part.name, *counts, *minutes))
             if part.call is looks and failed:
                 break
-    print(*AGAIN, *told, *spent.lines(), sep="\n")
-    print(f"{passed} passed, {failed} failed", flush=True)
+    print(*AGAIN, *told, *spent.lines(), *skipped, sep="\n")
+    print(f"{passed} passed, {failed} failed{f', {len(skipped)} skipped' * bool(skipped)}", flush=True)
     return 1 if failed else 0
 
 

@@ -4,14 +4,18 @@
   .ci/growth.py --change CHANGE   the same of changes of generation, by the example `change` of hosts/store
   .ci/growth.py --tests PROGRAM   the same of a map through generations, by the tests that tools/tests has built
 
-What takes time that grows by the square takes four times as many. Where there is no valgrind nothing is counted.
+What takes time that grows by the square takes four times as many.
 """
 
 import os
 import re
-import shutil
 import subprocess
 import sys
+
+TOP = os.path.dirname(os.path.dirname(os.path.abspath(__file__)))
+sys.path.insert(0, f"{TOP}/tools")
+
+import needs
 
 # How many pieces of work n is, how many replicas do them in turn, and how many times as many instructions twice n may
 # take.
@@ -106,9 +110,7 @@ def taken(program, many, command, counted, word):
 
 def is_counted(program):
     """Whether something is counted. (Where there is no program the rows count that.)"""
-    if not shutil.which("valgrind"):
-        print("nothing is counted: there is no valgrind", flush=True)
-    return bool(os.path.isfile(program) and shutil.which("valgrind"))
+    return os.path.isfile(program) and needs.has("valgrind", f"growth of {os.path.basename(program)}")
 
 
 def judged(name, sizes, took, most):

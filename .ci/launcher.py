@@ -15,6 +15,10 @@ import time
 
 import rows
 
+sys.path.insert(0, f"{rows.TOP}/tools")
+
+import needs
+
 TOP = os.path.dirname(os.path.dirname(os.path.abspath(__file__)))
 PROGRAMS = ("ep_main", "ep_viewer", "ep_server")
 UNPROVED = "not proved: built with --unproved\n"
@@ -259,8 +263,8 @@ def belonging(room):
 
 
 def cheap(room):
-    """What a call costs beside its program: no process, and few calls of the system. (Time is too unsteady for a row; strace counts where it is there.)"""
-    if not shutil.which("strace"):
+    """What a call costs beside its program: no process, and few calls of the system. (Time is too unsteady for a row; strace counts.)"""
+    if not needs.has("strace", "launcher: what a call costs"):
         return
     for kinds in (("unproved",), ("proved",)):
         room.place(*kinds)

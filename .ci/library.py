@@ -1,5 +1,5 @@
 """The C library, whose crate `rt ci` proved: makes an archive without its proofs, since `rt lib` would prove all below it once more, and builds and runs the
-programs of bindings/c with it, by each compiler that is there. The logs that the example leaves are audited by the programs that `rt ci` built. Runs alone
+programs of bindings/c with it, by each of two compilers. The logs that the example leaves are audited by the programs that `rt ci` built. Runs alone
 too: python3 .ci/library.py [ARCHIVE [NODE PROGRAM]], of other builds.
 """
 
@@ -13,7 +13,8 @@ import tempfile
 
 sys.dont_write_bytecode = True
 
-from store import BUILT, TOP, is_well
+import needs
+from store import BUILT, TOP, has_programs, is_well
 
 FOLDER = f"{TOP}/bindings/c"
 ARCHIVE = f"{TOP}/out/unproved/libepaxos.a"
@@ -80,7 +81,7 @@ def example(compiler, scratch, node, program):
     os.mkdir(logs)
     for client in (1, 4):
         yield agrees(lines([f"{scratch}/{compiler}-example", logs]), client) and keeps_opening(logs)
-    if os.path.isfile(node) and os.path.isfile(program):
+    if has_programs(node, program, "the audit of what bindings/c leaves"):
         yield is_audited(logs, f"{scratch}/{compiler}-nodes", node, program)
 
 
@@ -92,18 +93,16 @@ def tried(archive=None, node=BUILT[0], program=BUILT[1]):
         archive = ARCHIVE
         well.append(is_well(["tools/unproved", "--library"], cwd=TOP))
     well.append(is_well(["tools/generate", "--check", "header"], cwd=TOP))
-    compilers = [it for it in COMPILERS if shutil.which(it)]
-    if not compilers:
-        print("the programs of bindings/c are not tried: there is no C compiler", flush=True)
-    elif os.path.isfile(archive):
+    compilers = [it for it in COMPILERS if needs.has(it, f"bindings/c by {it}")]
+    if compilers and os.path.isfile(archive):
         with tempfile.TemporaryDirectory(prefix="epaxos-library-") as scratch:
             for compiler in compilers:
                 well += [*built(compiler, scratch, archive), *example(compiler, scratch, node, program)]
-            if shutil.which("g++"):
+            if needs.has("g++", "the C header in C++"):
                 with open(f"{scratch}/header.cc", "w", encoding="ascii") as file:
                     file.write('#include "epaxos.h"\n#include "epaxos_answers.h"\nint main() { return ep_version() != EP_VERSION; }\n')
                 well.append(is_well(["g++", "-Wall", "-Wextra", "-Wpedantic", "-Werror", f"-I{FOLDER}", f"{scratch}/header.cc", archive, "-o", f"{scratch}/header"]) and is_well([f"{scratch}/header"]))
-            if shutil.which("valgrind"):
+            if needs.has("valgrind", "bindings/c under valgrind"):
                 os.mkdir(f"{scratch}/looked")
                 looked = ("misuse", "generations", "told")
                 well += [is_well([*VALGRIND, f"{scratch}/{compilers[0]}-{it}"]) for it in looked]

@@ -4,8 +4,7 @@
   .ci/page.py PROGRAM     PROGRAM is ep_main as it was built, beside which ep_viewer was built
 
 Of each run the trace events are read as JSON, and counted against what `show` prints; its diagram and its graph have to be those of what `show` prints, and
-the graph is drawn by Graphviz, where it is installed; and its page is opened in headless Chromium, where there is
-one: it has to say how many events and instances there are, to list the instances with their commands as `show` has them, to find slow and recovered ones,
+the graph is drawn by Graphviz; and its page is opened in headless Chromium: it has to say how many events and instances there are, to list the instances with their commands as `show` has them, to find slow and recovered ones,
 to sort by path, to have the arrows of the graph, and to raise no error. Both views are saved as SVG, and read as XML.
 The runs are worked scripts, a run whose keys and values are odd bytes, one of 10,800 events at five replicas, one of proposals that name whom they spare,
 and one of version 3 with two seals.
@@ -27,6 +26,7 @@ TOP = os.path.dirname(os.path.dirname(os.path.abspath(__file__)))
 sys.path[:0] = [f"{TOP}/.ci", f"{TOP}/tools"]
 import drawing
 import looks
+import needs
 import odd
 import rows
 from loaded import loaded
@@ -245,7 +245,9 @@ def tried(program):
     """Looks at all runs, prints a line for each that is wrong, and returns how many passed and how many failed."""
     passed = failed = 0
     if not BROWSER:
-        print("pages: there is no chromium here, so no page is opened", flush=True)
+        needs.has("chromium", "pages in a browser")
+    if not GRAPHVIZ:
+        needs.has("dot", "graphs drawn by Graphviz")
     ways = [("trace events", events_fault, ["trace-events"]), ("a diagram", diagram_fault, ["draw", "--mermaid"]), ("a graph", graph_fault, ["draw", "--dot"])]
     ways += [("a page", page_fault, ["draw"]), ("a page that is used", used_fault, ["draw"])] * bool(BROWSER)
     for name, bundle in bundles(program):

@@ -19,6 +19,7 @@ import tempfile
 
 TOP = os.path.dirname(os.path.dirname(os.path.abspath(__file__)))
 sys.path.insert(0, f"{TOP}/tools")
+import needs
 from loaded import loaded
 
 TOOLS = (
@@ -174,15 +175,17 @@ def tried(make, store=None):
         os.mkdir(f"{folder}/pages")
         dead = [*dead_links(first[0], f"{folder}/pages", release.OF_SOURCES)]
         check("".join(["the links of its pages", *(f"; dead: {it}" for it in dead)]), not dead)
-        if may_enter() and shutil.which("cc") and shutil.which("ldd"):
+        needs.has("dpkg-deb", "the package of a release")
+        needs.has("redis-cli", "the store of a release")
+        if not may_enter():
+            needs.skip("a release in a root of its own", "none may be entered here")
+        elif all([needs.has(it, "a release in a root of its own") for it in ("cc", "ldd")]):
             for line in used(first[0], first[1] if len(first) > 1 else None, folder):
                 if line.startswith(("passed ", "FAILED ")):
                     check(line.partition(" ")[2], line.startswith("passed "))
                 else:
                     print(line, flush=True)
-        else:
-            print("release: no root of its own may be entered here, so it is only made", flush=True)
-        if shutil.which("cargo"):
+        if needs.has("cargo", "the crate of a release"):
             os.mkdir(f"{folder}/crate")
             check("the crate in a package of its own", taken(first[0], f"{folder}/crate"))
     return checks.count(True), checks.count(False)

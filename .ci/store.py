@@ -1,31 +1,27 @@
 """The host in hosts/store, where cargo and the library are there: builds it, and runs its tests, some of them over the programs
-that `rt ci` built, then the client for Go, where go is there, clients that others have written and strangers at its ports, where redis-py is there,
-and then plays a trial of 30 seconds over several generations, with 3 kills and a machine replaced, whose chain the audit judges; and four of some
+that `rt ci` built, then the client for Go, clients that others have written and strangers at its ports, and then plays a trial of 30 seconds over several generations, with 3 kills and a machine replaced, whose chain the audit judges; and four of some
 seconds: of a bank, of a map that grows, over distance and on a fifth of a processor. Runs alone too: python3 .ci/store.py [NODE PROGRAM [FOLDER]], of other builds, with the folder that libepaxos.a and
 libepaxos.so are in.
 
 It is built without optimisation and without what debuggers need, which takes less than a release build; and a slow store shows sooner what does work twice.
 """
 
-import glob
 import os
-import shutil
 import subprocess
 import sys
 import tempfile
 
 TOP = os.path.dirname(os.path.dirname(os.path.abspath(__file__)))
+sys.path.insert(0, f"{TOP}/tools")
+
+import needs
+
 STORE = f"{TOP}/hosts/store"
 GO = f"{TOP}/clients/go"
 # what `rt ci` built: the program of `node` and `collect`, and that of all else
 BUILT = (f"{TOP}/crates/ep_server/out/ep_server", f"{TOP}/crates/ep_main/out/ep_main")
 # where builds put the library: first the proved one
 LIBRARIES = (f"{TOP}/out", f"{TOP}/out/unproved")
-# the crates that it takes, as Debian's packages bring them; elsewhere they are crates.io's
-PACKAGES = ("librust-hmac-dev", "librust-mio-dev", "librust-sha2-dev", "librust-signal-hook-dev", "librust-subtle-dev")
-REGISTRY = "/usr/share/cargo/registry"
-# clients that others have written, and Redis to compare with
-CLIENTS = ("redis-server", "redis-tools", "python3-redis", "stunnel4")
 # for so many seconds strangers come, and half as long before and after it is looked how clients do without them
 STRANGERS = "6"
 # what is asked of the client for Go: that it is formatted and vetted, and passes its tests within five minutes
@@ -57,31 +53,25 @@ def is_well(words, **how):
     return not subprocess.run(words, stdin=subprocess.DEVNULL, **how).returncode
 
 
-def has_packages():
-    """Whether the crates of all these packages are there."""
-    return all(glob.glob(f"{REGISTRY}/{it.removeprefix('librust-').removesuffix('-dev')}-[0-9]*") for it in PACKAGES)
-
-
 def source():
-    """The words by which cargo takes the crates of Debian's packages, which are installed where they can be; or none."""
-    if not has_packages() and shutil.which("apt-get") and not os.geteuid():
-        for words in (["update", "-qq"], ["install", "-y", "-qq", "--no-install-recommends", *PACKAGES]):
-            subprocess.run(["apt-get", *words], stdin=subprocess.DEVNULL, stdout=subprocess.DEVNULL)
-    return ["--config", "debian.toml", "--offline"] if has_packages() else []
+    """The words by which cargo takes the crates of Debian's packages; none where one isn't there, and they are crates.io's."""
+    crates = [it for it in needs.every().values() if it.name.startswith("crate:")]
+    return ["--config", "debian.toml", "--offline"] if all(it.is_there() for it in crates) else []
 
 
-def has_redis(it):
-    return os.path.exists(it) and not subprocess.run([it, "-c", "import redis"], stderr=subprocess.DEVNULL).returncode
+def has_programs(node, program, what):
+    """Whether `rt ci` built both programs; where it didn't, says that what takes them isn't tried."""
+    are_there = os.path.isfile(node) and os.path.isfile(program)
+    if not are_there:
+        needs.skip(what, "`rt ci` has not built both programs")
+    return are_there
 
 
-def python():
-    """A Python that has redis-py, or this one."""
-    if not shutil.which("redis-cli") and shutil.which("apt-get") and not os.geteuid():
-        subprocess.run(["apt-get", "install", "-y", "-qq", "--no-install-recommends", *CLIENTS], stdin=subprocess.DEVNULL, stdout=subprocess.DEVNULL)
-    for it in (sys.executable, "/usr/bin/python3"):
-        if has_redis(it):
-            return it
-    return sys.executable
+def has_library(library, what):
+    """The same of the library."""
+    if not library:
+        needs.skip(what, "there is no library")
+    return bool(library)
 
 
 def joined(scratch, node, program):
@@ -108,33 +98,28 @@ def library_there():
 def tried(node=BUILT[0], program=BUILT[1], library=None):
     """How many of these passed, and how many failed."""
     library = library or library_there()
-    if not library or not shutil.which("cargo"):
-        print("hosts/store is not tried: there is no library, or no cargo", flush=True)
+    if not (has_library(library, "hosts/store") and needs.has("cargo", "hosts/store")):
         return 0, 0
     with tempfile.TemporaryDirectory(prefix="epaxos-store-") as scratch:
         environment = {**os.environ, **CHEAP, "CARGO_TARGET_DIR": f"{scratch}/target", "EPAXOS_LIBRARY": library}
-        epaxos = joined(scratch, node, program) if os.path.isfile(node) and os.path.isfile(program) else None
+        epaxos = joined(scratch, node, program) if has_programs(node, program, "clusters of hosts/store") else None
         if epaxos:
             # (it judges what clusters leave)
             environment["EPAXOS"] = epaxos
-        else:
-            print("no cluster of hosts/store is tried: `rt ci` has not built both programs", flush=True)
         # (the tests run the programs, so that this builds them too)
-        packages, it = source(), python()
-        well = [is_well(["cargo", "test", *packages, "--workspace", "--quiet"], cwd=STORE, env=environment)]
+        well = [is_well(["cargo", "test", *source(), "--workspace", "--quiet"], cwd=STORE, env=environment)]
         if epaxos and all(well):
             well.append(is_well([sys.executable, f"{TOP}/.ci/folders.py", node, f"{scratch}/target/debug/folder"], env=environment))
         if all(well):
             change = f"{scratch}/target/debug/examples/change"
             well.append(is_well([sys.executable, f"{TOP}/.ci/growth.py", "--change", change]))
-        if not shutil.which("go"):
-            print("clients/go is not tried: there is no go", flush=True)
-        elif epaxos and all(well):
+        if needs.has("go", "clients/go") and epaxos and all(well):
             well.append(is_go_well(f"{scratch}/target/debug/store", environment))
+        python = needs.PYTHON if os.path.exists(needs.PYTHON) else sys.executable
         if epaxos and all(well):
-            well.append(is_well([it, f"{STORE}/tests/libraries.py", f"{scratch}/target/debug/store"]))
-        if epaxos and all(well) and has_redis(it):
-            well.append(is_well([it, f"{STORE}/tests/strangers.py", f"{scratch}/target/debug/store", STRANGERS]))
+            well.append(is_well([python, f"{STORE}/tests/libraries.py", f"{scratch}/target/debug/store"]))
+        if epaxos and all(well) and needs.has("python:redis", "strangers at a store's ports"):
+            well.append(is_well([python, f"{STORE}/tests/strangers.py", f"{scratch}/target/debug/store", STRANGERS]))
         trial = [f"{scratch}/target/debug/trial", "--node", epaxos]
         if epaxos and all(well):
             well.append(is_well([*trial, *TRIAL, *CHECKPOINTS, "--dir", f"{scratch}/trial"]))

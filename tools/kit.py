@@ -46,7 +46,7 @@ def sum_of_kit():
 
 
 class NoStore:
-    """What stands in for the store of proofs of a kit that has none: nothing is kept there, and the sums are made here."""
+    """What stands in for the store of proofs of a kit that has none: nothing is kept, and the sums are made here."""
 
     at = None
 
@@ -54,7 +54,7 @@ class NoStore:
         self.built = {}
 
     def key(self, crate):
-        """The sum of all that the crate's proof reads: the kit, HANDLES, its line, its files, and the libraries below as they were built."""
+        """The sum of all that its proof reads: the kit, HANDLES, its line and files, and the libraries below."""
         files = [(os.path.relpath(it, crate.folder), KIT.rtlib.sum_of(it)) for it in files_of(crate)]
         below = [(it.name, self.built.get(it.name)) for it in crate.below()]
         read = (sum_of_kit(), crate.allowed, sorted(crate.said.items()), files, below)
@@ -63,7 +63,8 @@ class NoStore:
     def made(self, crate, _):
         """The files of out/ that are made of the crate, but for the C library."""
         if crate.is_program:
-            return [it for it in (crate.name, f"{crate.name}.by-rattle") if os.path.isfile(f"{crate.folder}/out/{it}")]
+            both = (crate.name, f"{crate.name}.by-rattle")
+            return [it for it in both if os.path.isfile(f"{crate.folder}/out/{it}")]
         walk = os.walk(crate.rlib)
         return sorted(os.path.relpath(f"{at}/{it}", f"{crate.folder}/out") for at, _, names in walk for it in names)
 

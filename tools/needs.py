@@ -7,16 +7,18 @@ As root on Debian it installs what is missing, and says so; elsewhere it prints 
 all is there then, and 69 where something isn't.
 """
 
+import contextlib
 import functools
 import glob
 import os
 import shutil
 import subprocess
 import sys
+import tempfile
 from dataclasses import dataclass
 
 LIST = f"{os.path.dirname(os.path.realpath(__file__))}/needs.txt"
-REGISTRY = "/usr/share/cargo/registry"
+REGISTRY, PYTHON = "/usr/share/cargo/registry", "/usr/bin/python3"
 APT = ["apt-get", "-qq", "-o", "DPkg::Lock::Timeout=300"]
 LACKING = 69
 # the file that lists what was skipped, a line each, where a gate runs
@@ -36,8 +38,7 @@ class Need:
             return bool(glob.glob(f"{REGISTRY}/{name}-[0-9]*"))
         if kind == "python":
             how = {"stdout": subprocess.DEVNULL, "stderr": subprocess.DEVNULL}
-            python = "/usr/bin/python3"
-            return os.path.exists(python) and not subprocess.run([python, "-c", f"import {name}"], **how).returncode
+            return os.path.exists(PYTHON) and not subprocess.run([PYTHON, "-c", f"import {name}"], **how).returncode
         return bool(shutil.which(name))
 
     def __str__(self):
@@ -94,6 +95,17 @@ def skip(what, why):
     if SKIPS in os.environ:
         with open(os.environ[SKIPS], "a", encoding="utf-8") as file:
             file.write(f"{line}\n")
+
+
+@contextlib.contextmanager
+def noting():
+    """Gives a list that has, behind it, each line on what was skipped here and in the processes below."""
+    lines = []
+    with tempfile.NamedTemporaryFile("r", encoding="utf-8") as file:
+        os.environ[SKIPS] = file.name
+        yield lines
+        del os.environ[SKIPS]
+        lines += dict.fromkeys(file.read().splitlines())
 
 
 def has(name, what):

@@ -16,8 +16,9 @@ import tempfile
 
 sys.dont_write_bytecode = True
 TOP = os.path.dirname(os.path.dirname(os.path.dirname(os.path.abspath(__file__))))
-sys.path.insert(0, f"{TOP}/.ci")
+sys.path[:0] = [f"{TOP}/.ci", f"{TOP}/tools"]
 
+import needs
 from disks import shim
 
 # how many disks that chance leaves are looked at after a call; of the calls on logs one of so many is looked at, and of
@@ -240,7 +241,7 @@ def tried(program, word=""):
     with tempfile.TemporaryDirectory(prefix="epaxos-hosts-", dir=room) as folder:
         built = shim.built(folder)
         if not built:
-            print("no host's disk is looked at: there is no cc, or no program can be traced here", flush=True)
+            needs.skip("a host's disk", shim.UNTRACED)
             return 0, 0
         passed = failed = 0
         for row in ROWS:

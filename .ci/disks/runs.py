@@ -19,7 +19,10 @@ TOP = os.path.dirname(os.path.dirname(os.path.dirname(os.path.abspath(__file__))
 
 sys.path.insert(0, f"{TOP}/.ci")
 
+sys.path.insert(0, f"{TOP}/tools")
+
 import folders
+import needs
 from disks import disk, shim
 from disks.shim import SYNC, propose
 
@@ -486,7 +489,7 @@ FOLDER_ROWS = (closes, goes_by_a_reference, closes_one_that_has_a_reference, tak
 def tried(node=NODE, word=""):
     """How many rows passed, and how many failed; the images are one."""
     if not os.path.isfile(node):
-        print("no row of disks is run: `rt ci` has not built ep_server", flush=True)
+        needs.skip("disks", "`rt ci` has not built ep_server")
         return 0, 0
     passed, failed = rows(node, word)
     if not word:
@@ -503,7 +506,7 @@ def rows(node, word):
     with tempfile.TemporaryDirectory(prefix="epaxos-disks-", dir="/dev/shm" if os.path.isdir("/dev/shm") else None) as folder:
         built = shim.built(folder)
         if not built:
-            print("no row of disks is run: there is no cc, or no program can be traced here", flush=True)
+            needs.skip("disks", shim.UNTRACED)
             return 0, 0
         made = 0
 

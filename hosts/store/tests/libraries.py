@@ -18,12 +18,16 @@ import time
 
 from ports import Ports
 
+FOLDER = os.path.dirname(os.path.abspath(__file__))
+sys.path.insert(0, f"{FOLDER}/../../../tools")
+
+import needs
+
 try:
     import redis
 except ImportError:
     redis = None
 
-FOLDER = os.path.dirname(os.path.abspath(__file__))
 EXAMPLES = os.path.join(os.path.dirname(FOLDER), "examples")
 PATIENCE = 300
 
@@ -98,8 +102,7 @@ def check_soon(what, ask, expected):
 
 def by_redis_cli(cluster):
     """Replies as redis-cli prints them where its output is no terminal."""
-    if not shutil.which("redis-cli"):
-        print("no redis-cli is here")
+    if not needs.has("redis-cli", "a store and redis-cli"):
         return
 
     def cli(replica, *words, lines=None):
@@ -148,8 +151,7 @@ def by_redis_cli(cluster):
 
 
 def by_redis_benchmark(cluster):
-    if not shutil.which("redis-benchmark"):
-        print("no redis-benchmark is here")
+    if not needs.has("redis-benchmark", "a store and redis-benchmark"):
         return
     for replica, words in enumerate([["-t", "set,get,incr"], ["-t", "set,get,incr", "-P", "16"], ["-t", "set,get", "-P", "16", "-r", "1000"]]):
         port = str(cluster.ports[replica])
@@ -164,7 +166,7 @@ def by_redis_benchmark(cluster):
 
 def by_redis_py(cluster):
     if redis is None:
-        print("this Python has no redis-py")
+        needs.skip("a store and redis-py", "this Python has none; Debian has it in python3-redis")
         return
 
     def client(replica, **words):
@@ -327,9 +329,7 @@ def transactions(client):
 
 def by_tls(cluster):
     """redis-py over TLS, which stunnel takes off by the section of clients of examples/stunnel.conf."""
-    stunnel = shutil.which("stunnel4") or shutil.which("stunnel")
-    if redis is None or not stunnel or not shutil.which("openssl"):
-        print("no stunnel is here")
+    if redis is None or not needs.has("stunnel4", "a store over TLS") or not needs.has("openssl", "a store over TLS"):
         return
     folder = cluster.folder
     words = "openssl req -x509 -newkey rsa:2048 -nodes -days 2 -subj /CN=localhost -addext subjectAltName=DNS:localhost -keyout key.pem -out ca.pem"
@@ -343,7 +343,7 @@ def by_tls(cluster):
         text = file.read().replace("accept = 7443", f"accept = 127.0.0.1:{port}").replace(":7000", f":{cluster.ports[0]}")
     with open(f"{folder}/stunnel.conf", "w", encoding="utf-8") as file:
         file.write(text)
-    running = subprocess.Popen([stunnel, "stunnel.conf"], cwd=folder, stdout=subprocess.DEVNULL, stderr=subprocess.DEVNULL)
+    running = subprocess.Popen(["stunnel4", "stunnel.conf"], cwd=folder, stdout=subprocess.DEVNULL, stderr=subprocess.DEVNULL)
     try:
         client = redis.Redis(host="localhost", port=port, ssl=True, ssl_ca_certs=f"{folder}/ca.pem", ssl_check_hostname=True)
         start = time.monotonic()
