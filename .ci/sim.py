@@ -22,26 +22,31 @@ SEEDS, AUDITED = 600, 20
 QUICK = {"CARGO_INCREMENTAL": "0", "CARGO_PROFILE_RELEASE_LTO": "off", "CARGO_PROFILE_RELEASE_CODEGEN_UNITS": "16"}
 
 
+def built(folder, library):
+    """The examples `sim` and `power`, built in the folder; None in their place where they aren't."""
+    environment = {**os.environ, **QUICK, "CARGO_TARGET_DIR": f"{folder}/target", "EPAXOS_LIBRARY": library}
+    build = ["cargo", "build", "--release", "--offline", "--quiet", "--features", "plants"]
+    examples = [f"{folder}/target/release/examples/{it}" for it in ("sim", "power")]
+    is_there = is_well([*build, "--example", "sim", "--example", "power"], cwd=CRATE, env=environment)
+    return examples if is_there else (None, None)
+
+
 def tried(node=BUILT[0], program=BUILT[1], library=None, seeds=SEEDS):
     """How many of these passed, and how many failed."""
     library = library or library_there()
     if not (has_library(library, "simulated hosts") and needs.has("cargo", "simulated hosts")):
         return 0, 0
     with tempfile.TemporaryDirectory(prefix="epaxos-sim-") as scratch:
-        folders = {"CARGO_TARGET_DIR": f"{scratch}/target", "EPAXOS_LIBRARY": library}
-        environment = {**os.environ, **QUICK, **folders}
-        build = ["cargo", "build", "--release", "--offline", "--quiet", "--features", "plants"]
-        build += ["--example", "sim", "--example", "power"]
-        well = [is_well(build, cwd=CRATE, env=environment)]
-        sim = [f"{scratch}/target/release/examples/sim"]
-        if all(well):
-            threads = ["--threads", str(max(1, len(os.sched_getaffinity(0)) // 2))]
-            well.append(is_well([*sim, *threads, "--seeds", str(seeds)], env=environment))
+        example, power = built(scratch, library)
+        well = [bool(example)]
+        if example:
+            sim = [example, "--threads", str(max(1, len(os.sched_getaffinity(0)) // 2))]
+            well.append(is_well([*sim, "--seeds", str(seeds)]))
             if has_programs(node, program, "audits of simulated hosts"):
                 audit = ["--audit", joined(scratch, node, program)]
-                well.append(is_well([*sim, *threads, "--seeds", str(AUDITED), *audit], env=environment))
-            well.append(is_well([*sim, *threads, "--seeds", "1000", "--plant", "all"], env=environment))
-            passed, failed = hosts.tried(f"{scratch}/target/release/examples/power")
+                well.append(is_well([*sim, "--seeds", str(AUDITED), *audit]))
+            well.append(is_well([*sim, "--seeds", "1000", "--plant", "all"]))
+            passed, failed = hosts.tried(power)
             well += [True] * passed + [False] * failed
     return well.count(True), well.count(False)
 

@@ -27,7 +27,7 @@ def program():
 
 def traced(lines):
     """The trace of a script."""
-    ran = subprocess.run([program(), "replay", "--emit", "trace"], input="\n".join(lines).encode() + b"\n", stdout=subprocess.PIPE, check=True)
+    ran = subprocess.run([program(), "trace"], input="\n".join(lines).encode() + b"\n", stdout=subprocess.PIPE, check=True)
     return ran.stdout.decode()
 
 
