@@ -22,7 +22,7 @@ sys.path.insert(0, f"{TOP}/.ci")
 
 import generations
 
-SECONDS = 120
+SECONDS = 600
 # how many seeds a gate tries, from 0 on
 SEEDS = 30
 KEYS = ("a", "aa", "b", "%00", "%ff")

@@ -17,7 +17,7 @@ from disks import shim
 from disks.shim import ADVANCE, ALL, STATE, SYNC
 
 TOP = os.path.dirname(os.path.dirname(os.path.abspath(__file__)))
-SECONDS = 60
+SECONDS = 600
 PUT, GET, SEAL = 3, 2, 9
 EMPTY = {3: bytes.fromhex("45504f50 03 03 00000001 0000000000000000 00 00000000 00000000")}
 for _size in (5, 7):

@@ -13,7 +13,7 @@ TOP = os.path.dirname(os.path.dirname(os.path.abspath(__file__)))
 sys.path.insert(0, f"{TOP}/tools")
 from loaded import loaded
 
-SECONDS = 60
+SECONDS = 600
 
 
 def asked(kind, body=""):

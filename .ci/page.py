@@ -33,7 +33,7 @@ from loaded import loaded
 
 GRAPHVIZ = shutil.which("dot")
 BROWSER = shutil.which("chromium") or shutil.which("chromium-browser") or shutil.which("google-chrome")
-SECONDS = 120
+SECONDS = 600
 EXAMPLES = ("one_put", "slow_path", "recovery", "two_swaps", "stale_answer_then_chosen", "empty")
 INSTANCE = r"[0-6]\.[1-9][0-9]{0,3}"
 

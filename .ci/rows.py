@@ -29,7 +29,8 @@ from dataclasses import dataclass, field, replace
 
 sys.dont_write_bytecode = True
 TOP = os.path.dirname(os.path.dirname(os.path.abspath(__file__)))
-SECONDS = 120
+# after so many seconds a run hangs, also where the machine has a load of 50
+SECONDS = 600
 
 
 def program_of(program, words):

@@ -10,7 +10,7 @@ from dataclasses import dataclass
 from disks import disk
 
 SOURCE = os.path.join(os.path.dirname(os.path.abspath(__file__)), "shim.c")
-SECONDS = 60
+SECONDS = 600
 UNTRACED = "there is no cc, or no program can be traced here"
 # the length of a log's header, and of what stands before and behind an entry in its record, by version
 HEADERS = {2: 7, 3: 43}

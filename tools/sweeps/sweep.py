@@ -14,7 +14,7 @@ from dataclasses import dataclass
 
 TOP = os.path.dirname(os.path.dirname(os.path.dirname(os.path.abspath(__file__))))
 # how long a run may take
-SECONDS = 60
+SECONDS = 600
 
 
 @dataclass

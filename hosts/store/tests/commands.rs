@@ -665,30 +665,22 @@ fn sizes() {
     assert_eq!(client.ask(&[b"GET", b"a"]).unwrap(), Reply::Bulk(None));
 }
 
-/// How long it takes to SET these keys, by pipelines of their shares.
-fn set_all(memory: &Memory, clients: usize, keys: usize) -> Duration {
-    let mut clients: Vec<_> = (0..clients).map(|_| memory.client()).collect();
-    let share = keys / clients.len();
-    let start = Instant::now();
-    thread::scope(|scope| {
-        for (number, client) in clients.iter_mut().enumerate() {
-            scope.spawn(move || {
-                let names: Vec<_> = (0..share).map(|key| format!("{number}-{key}").into_bytes()).collect();
-                let words: Vec<[&[u8]; 3]> = names.iter().map(|name| [&b"SET"[..], name, name]).collect();
-                client.send(&words.iter().map(|words| &words[..]).collect::<Vec<_>>()).unwrap();
-                names.iter().for_each(|_| assert_eq!(client.read().unwrap(), Reply::Simple("OK".into())));
-            });
-        }
-    });
-    start.elapsed()
+/// In how many turns of the core so many keys are SET by a pipeline.
+fn set_all(memory: &Memory, keys: usize) -> u64 {
+    let (mut client, before) = (memory.client(), memory.turns());
+    let names: Vec<_> = (0..keys).map(|key| format!("0-{key}").into_bytes()).collect();
+    let words: Vec<[&[u8]; 3]> = names.iter().map(|name| [&b"SET"[..], name, name]).collect();
+    client.send(&words.iter().map(|words| &words[..]).collect::<Vec<_>>()).unwrap();
+    names.iter().for_each(|_| assert_eq!(client.read().unwrap(), Reply::Simple("OK".into())));
+    memory.turns() - before
 }
 
 #[test]
 fn a_pipeline_is_one() {
     // What has come takes 20 ms, however much it is.
     let memory = Memory::start("pipeline", Duration::from_millis(20));
-    // (one after the other they would take 10 s; where the machine is busy it is tried again)
-    wait("a pipeline in 3 s", || set_all(&memory, 1, 500) < Duration::from_secs(3));
+    // (one after the other they would take 500; where the machine is busy it is tried again)
+    wait("a pipeline in 150 turns", || set_all(&memory, 500) <= 150);
     // Replies come in order, whatever finishes first; of one key commands are done in the order in which they were sent.
     let mut client = memory.client();
     let lines = [
@@ -744,12 +736,12 @@ fn a_pipeline_is_one() {
 
 #[test]
 fn many_clients_of_one_key_share_commands() {
-    let memory = Memory::start("shared", Duration::from_millis(5));
-    let (clients, each) = (20, 50);
-    // (one after the other they would take 5 s; where the machine is busy it is tried again)
-    wait("1,000 commands in 4 s", || {
+    let memory = Memory::start("shared", Duration::from_millis(20));
+    let (clients, each) = (20, 20);
+    // (one after the other they would take 400; where the machine is busy it is tried again)
+    wait("400 commands in 200 turns", || {
         assert!(matches!(ask(&mut memory.client(), "DEL hot"), Reply::Integer(0 | 1)));
-        let start = Instant::now();
+        let before = memory.turns();
         thread::scope(|scope| {
             for _ in 0..clients {
                 scope.spawn(|| {
@@ -758,7 +750,8 @@ fn many_clients_of_one_key_share_commands() {
                 });
             }
         });
+        let turns = memory.turns() - before;
         assert_eq!(shown(&ask(&mut memory.client(), "GET hot")), format!("\"{}\"", clients * each));
-        start.elapsed() < Duration::from_secs(4)
+        turns <= 200
     });
 }

@@ -43,7 +43,7 @@ fn what_a_list_hides_is_removed() {
         assert_eq!(ask(&mut client, line), listed);
         let start = Instant::now();
         while kept(&mut client) > 1 {
-            assert!(start.elapsed() < Duration::from_secs(60), "{line}");
+            assert!(start.elapsed() < Duration::from_secs(300), "{line}");
         }
     }
 }
@@ -63,7 +63,7 @@ fn what_nobody_asks_for_is_removed_a_few_in_each_second() {
     wait("the look", || looked.expired.get() > 0 || kept(&mut memory.client()) < 51);
     assert!([50, 30, 10, 0].contains(&looked.expired.get()));
     while kept(&mut client) > 1 {
-        assert!(start.elapsed() < Duration::from_secs(60));
+        assert!(start.elapsed() < Duration::from_secs(300));
         thread::sleep(Duration::from_millis(10));
     }
     // (20 in each second: the last ten come after two)

@@ -65,13 +65,13 @@ mod tests {
         let own_time = move || threads_time(own, &[]).saturating_sub(threads_time(own, &["at work"]));
         let work = move || {
             while own_time() < Duration::from_millis(50) {
-                assert!(start.elapsed() < Duration::from_secs(60));
+                assert!(start.elapsed() < Duration::from_secs(300));
             }
         };
         std::thread::Builder::new().name("at work".into()).spawn(work).unwrap().join().unwrap();
         let (before, start) = (processor_time(own), Instant::now());
         while processor_time(own) < before + Duration::from_millis(50) {
-            assert!(start.elapsed() < Duration::from_secs(60));
+            assert!(start.elapsed() < Duration::from_secs(300));
         }
     }
 }

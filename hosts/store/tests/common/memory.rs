@@ -18,12 +18,13 @@ use store::map::{Map, execute};
 use store::ops::metrics::Metrics;
 use testing::client::Client;
 
-const PATIENCE: Duration = Duration::from_secs(60);
+const PATIENCE: Duration = Duration::from_secs(300);
 
 /// A server that takes clients. Its threads end with the process; its folder is removed when it is let go.
 pub struct Memory {
     pub port: u16,
     pub folder: PathBuf,
+    turns: Arc<AtomicU64>,
 }
 
 impl Memory {
@@ -58,9 +59,16 @@ impl Memory {
             started: Instant::now(),
         };
         change(&mut shared);
-        thread::spawn(move || drive(&asked, takes));
+        let turns = Arc::<AtomicU64>::default();
+        let counted = turns.clone();
+        thread::spawn(move || drive(&asked, takes, &counted));
         thread::spawn(move || listen(listener, Arc::new(shared)));
-        Memory { port, folder }
+        Memory { port, folder, turns }
+    }
+
+    /// How many times it has taken what had come.
+    pub fn turns(&self) -> u64 {
+        self.turns.load(Ordering::Relaxed)
     }
 
     pub fn client(&self) -> Client {
@@ -74,25 +82,20 @@ impl Drop for Memory {
     }
 }
 
-/// How many commands were executed, over all of these.
-pub static EXECUTED: AtomicU64 = AtomicU64::new(0);
-
 /// Takes what has come, waits, and answers all of it.
-fn drive(asked: &Receiver<Event>, takes: Duration) {
+fn drive(asked: &Receiver<Event>, takes: Duration, turns: &AtomicU64) {
     let mut map = Map::new();
     while let Ok(first) = asked.recv() {
         let mut events = vec![first];
         events.extend(asked.try_iter());
         thread::sleep(takes);
+        turns.fetch_add(1, Ordering::Relaxed);
         for event in events {
             let Event::Ask(Ask { what, reply }) = event else { continue };
             let is_given_up = matches!(what, What::Propose(_)) && !reply.begun().begin();
             reply.send(match what {
                 _ if is_given_up => Outcome::Late,
-                What::Propose(command) => {
-                    EXECUTED.fetch_add(1, Ordering::Relaxed);
-                    Outcome::Done(execute(&mut map, &command))
-                }
+                What::Propose(command) => Outcome::Done(execute(&mut map, &command)),
                 What::Get(key) | What::Read(key) => Outcome::Value(map.get(&key).cloned()),
                 What::Contents => {
                     let mut pairs: Vec<_> = map.iter().map(|(key, value)| (key.clone(), value.clone())).collect();

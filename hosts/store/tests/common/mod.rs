@@ -15,7 +15,7 @@ use testing::ports::Ports;
 /// How long a test waits, and a store has a client wait: other work may leave them little of the processors.
 const PATIENCE: Duration = Duration::from_secs(300);
 /// How long a store is started again that finds a port taken.
-const PORT_PATIENCE: Duration = Duration::from_secs(60);
+const PORT_PATIENCE: Duration = Duration::from_secs(300);
 const STORE_PATIENCE: &str = "60";
 /// What a store logs once it takes clients.
 pub const SERVES: &str = ", clients at ";
