@@ -16,7 +16,8 @@
 //!
 //! The order of the checks is part of the contract: which fault is reported first. How things are found, merged and looked up isn't.
 //!
-//! It knows nothing of scripts and reports: `ep_report` prints verdicts and faults.
+//! It knows nothing of scripts and reports: `ep_report` prints verdicts and faults. For who audits bundles it hands on
+//! `read_bundle` and `write_bundle` of `ep_bundle`.
 #![tactic(auto)]
 
 mod audit_fault;
@@ -54,6 +55,7 @@ pub use chain_link::ChainLink;
 pub use chain_verdict_fault::ChainVerdictFault;
 pub use closing::Closing;
 pub use contents::contents_of;
+pub use ep_bundle::{read_bundle, write_bundle};
 pub use happening::Happening;
 pub use listing::faults;
 pub use lookups::{entries_of, entry_at, is_request, proposed, sent_there};
