@@ -129,7 +129,7 @@ due_next p (Some due) = Some (cond p.is_hurried p.turned (plus due p.away))
 abbrev pub next_due : Patience → Option ℕ
 next_due p = cond (is_alone p) None (due_next p p.first)
 
--- a new one: all peers are taken to be reached, and nothing is known of their round trips
+-- a new one: all peers are taken to be reached, their round trips aren't known, and the last turn counts as one at 0
 pub record IsNew (faults replica : ℕ) (chosen : Waits) (number : ℕ) (p : Patience) : Type 0 where
   pub place : p.place ≡ record { size = faults; me = replica }
   pub waits : p.waits ≡ chosen
@@ -137,6 +137,7 @@ pub record IsNew (faults replica : ℕ) (chosen : Waits) (number : ℕ) (p : Pat
   pub peers : (r : ℕ) → r ≤ 6 → peer_of p.peers r ≡ record { trip = None; is_reached = true }
   pub all : p.all.entries ≡ []
   pub first : p.first ≡ None
+  pub turned : p.turned ≡ 0
   pub away : p.away ≡ 0
   pub is_hurried : p.is_hurried ≡ false
 

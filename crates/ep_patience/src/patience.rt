@@ -105,8 +105,9 @@ impl Patience {
     ghost use Rattle.ep_patience.specs.Trips.{measured};
     ghost use Rattle.ep_patience.specs.Turning.{after, again_of, found_at, has_room, instances, is_alone, most_of, next_due, outlook_of, remedy_next, time_at, time_by, with_hurry, with_measured, with_reached, HasTurned, IsNew, PutsOff};
 
-    /// That of this replica of a cluster, which waits so long, by the numbers of SplitMix64 from this seed. All peers are taken to be reached, none was
-    /// measured, and nothing is waited for. Replicas of a cluster have different seeds.
+    /// That of this replica of a cluster, which waits so long, by the numbers of SplitMix64 from this seed. All peers
+    /// are taken to be reached, none was measured, nothing is waited for, and the last turn counts as one at 0.
+    /// Replicas of a cluster have different seeds.
     pub fn new(alloc: Global, size: Size, me: ReplicaId, waits: Waits, seed: u64) -> Patience
         ensures { IsNew size me waits seed result }
     {
