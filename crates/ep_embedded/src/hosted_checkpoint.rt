@@ -14,7 +14,7 @@ pub struct HostedCheckpoint {
 
 impl HostedCheckpoint {
     ghost use Rattle.std.specs.Prelude.{◌≡◌, ◌≤◌, ◌++◌, [], length, max, OnOk, OnErr};
-    ghost use Rattle.ep_opening.specs.Pieces.{longest_field};
+    ghost use Rattle.ep_opening.specs.Pieces.{longest_field, IsAlone};
 
     /// It has given nothing yet.
     pub fn new(alloc: Global, checkpoint: Checkpoint) -> HostedCheckpoint
@@ -34,12 +34,13 @@ impl HostedCheckpoint {
         self.checkpoint.let_go();
     }
 
-    /// Gives the next bytes: at most `most` of them, or 189,004 where that is more; none where all was given, and else some. They are `piece` then. At an `Err`
+    /// Gives the next bytes: at most `most` of them, or 189,004 where that is more; none where all was given, and else some. The digest is given alone. They are `piece` then. At an `Err`
     /// all is as it was.
     pub fn give(&mut self, alloc: Global, most: usize) -> Result<(), AllocError>
         ensures ok { OnOk result (self.old.checkpoint.left ≡ self.new.piece.items ++ self.new.checkpoint.left) }
         ensures more { OnOk result (self.new.piece.items ≡ [] → self.old.checkpoint.left ≡ []) }
         ensures short { OnOk result (length self.new.piece.items ≤ max most longest_field) }
+        ensures alone { OnOk result (IsAlone self.old.checkpoint.file self.new.piece.items self.new.checkpoint.left) }
         ensures file { self.new.checkpoint.file ≡ self.old.checkpoint.file }
         ensures err { OnErr result (self.new ≡ self.old) }
     {

@@ -1,5 +1,5 @@
 -- What calls do that need no replica.
-use Rattle.std.specs.Prelude.{◌≡◌, ◌⊎◌, ◌<◌, ◌++◌, ◌∷◌, ℕ, Bool, true, false, List, [], take, length, None, Ok, Err, Result}
+use Rattle.std.specs.Prelude.{◌≡◌, ◌⊎◌, ◌<◌, ◌≤◌, ◌++◌, ◌∷◌, ℕ, Bool, true, false, List, [], drop, length, None, Ok, Err, Result}
 use Rattle.ep_base.specs.Quorums.{size}
 use Rattle.ep_bundle.specs.Journals.{ReadsBundle}
 use Rattle.ep_bundle.specs.Reading.{Left}
@@ -15,15 +15,15 @@ use Rattle.ep_rules.specs.declared.receipt.Receipt.{Receipt}
 use Rattle.ep_library.specs.Statuses.{done, memory, out_of_range, refused, too_short, bundle_status}
 use Rattle.ep_library.specs.Arguments.{IsSize}
 
--- the second list begins with the first
-abbrev pub BeginsWith : List ℕ → List ℕ → Type 0
-BeginsWith bytes out = take (length bytes) out ≡ bytes
+-- the bytes stand at the front of the buffer, which has room for them, and what stands behind them stays as it was
+abbrev pub IsCopied : List ℕ → List ℕ → List ℕ → Type 0
+IsCopied bytes out out' = (length bytes ≤ length out) × (out' ≡ bytes ++ drop (length bytes) out)
 
 -- the text is copied, with this status; or the buffer is too short; how long the text is is reported in any case
 abbrev pub Copies : ℕ → ℕ → List ℕ → List ℕ → List ℕ → ℕ → Type 0
 Copies status well text out out' reported =
     (reported ≡ length text)
-    × (((status ≡ well) × BeginsWith text out') ⊎ ((status ≡ too_short) × (length out < length text) × (out' ≡ out)))
+    × (((status ≡ well) × IsCopied text out out') ⊎ ((status ≡ too_short) × (length out < length text) × (out' ≡ out)))
 
 -- there was no memory, and nothing is written
 abbrev pub Leaves : ℕ → ℕ → List ℕ → ℕ → List ℕ → ℕ → Type 0

@@ -10,7 +10,7 @@ use Rattle.ep_embedded.specs.declared.succeed_fault.SucceedFault.{SucceedFault}
 use Rattle.ep_embedded.specs.declared.succeed_fault.SucceedFault.TheVariants.{Memory}
 use Rattle.ep_opening.specs.Bytes.{opening_bytes}
 use Rattle.ep_opening.specs.Files.{File}
-use Rattle.ep_opening.specs.Pieces.{longest_field}
+use Rattle.ep_opening.specs.Pieces.{longest_field, IsAlone}
 use Rattle.ep_opening.specs.References.{binding_bytes, IsReference, least_log, Reference, reference_bytes}
 use Rattle.ep_library.specs.Alone.{Copies, Leaves}
 use Rattle.ep_library.specs.Arguments.{IsSize, log_given}
@@ -79,12 +79,13 @@ pub record IsWhole (f : File) (h : HostedCheckpoint) : Type 0 where
   pub left : h.checkpoint.left ≡ opening_bytes f
   pub piece : h.piece.items ≡ []
 
--- what was left before is this piece, of some bytes, and what is left now
+-- what was left before is this piece, of some bytes, and what is left now; the digest is a piece of its own
 pub record HasGiven (most : ℕ) (h k : HostedCheckpoint) : Type 0 where
   pub file : k.checkpoint.file ≡ h.checkpoint.file
   pub left : h.checkpoint.left ≡ k.piece.items ++ k.checkpoint.left
   pub some : k.piece.items ≢ []
   pub short : length k.piece.items ≤ max most longest_field
+  pub alone : IsAlone h.checkpoint.file k.piece.items k.checkpoint.left
 
 -- the next piece is lent; or there is none, or no memory
 abbrev pub Gives : ℕ → ℕ → HostedCheckpoint → HostedCheckpoint → Lent → Type 0

@@ -1,5 +1,5 @@
 -- A file that is given in pieces.
-use Rattle.std.proofs.Common.{◌≡◌, ℕ, ◌+◌, ◌-◌, ◌≤◌, List, [], ◌++◌, length, take, drop, append-nil, append_assoc, refl, sym, ap, ◌∙◌, arith}
+use Rattle.std.proofs.Common.{◌≡◌, inl, ℕ, ◌+◌, ◌-◌, ◌≤◌, List, [], ◌++◌, length, take, drop, append-nil, append_assoc, refl, sym, ap, ◌∙◌, arith}
 use Rattle.std.proofs.Math.ListN.{drop_of_length-le}
 use Rattle.std.proofs.lemmas.Grind.{flat_map-append}
 use Rattle.std.proofs.lemmas.List.{drop-drop, take-append-drop}
@@ -13,7 +13,7 @@ use Rattle.sha2.specs.Sha256.{sha256}
 use Rattle.sha2.specs.declared.Sha256.{Sha256}
 use Rattle.ep_opening.specs.Bytes.{executed_bytes, file_digest, front_bytes, lead_bytes}
 use Rattle.ep_opening.specs.Files.{File}
-use Rattle.ep_opening.specs.Pieces.{IsGiven, IsPiece, IsUnderWay, body_left, entries_from, head_bytes, left_of}
+use Rattle.ep_opening.specs.Pieces.{IsAlone, IsGiven, IsPiece, IsUnderWay, body_left, entries_from, head_bytes, left_of}
 use Rattle.ep_opening.specs.declared.stage.Stage.{Stage}
 use Rattle.ep_opening.specs.declared.stage.Stage.TheVariants.{Front, Entries, Digest, Over}
 
@@ -60,6 +60,10 @@ next_is f start end es piece same le is =
 pub piece_left : (f : File) (s next : Stage) (piece old new : List ℕ) → IsPiece f s piece next → old ≡ body_left f s ++ file_digest f → new ≡ left_of f next → old ≡ piece ++ new
 piece_left f s next piece old new p h is =
     h ∙ ap (λ (bs : List ℕ). bs ++ file_digest f) p.is ∙ append_assoc piece (body_left f next) (file_digest f) ∙ ap (λ (bs : List ℕ). piece ++ bs) (sym p.goes_on ∙ sym is)
+
+pub digest_left : (f : File) (s next : Stage) (piece new : List ℕ) → IsPiece f s piece next → new ≡ left_of f next
+    → IsAlone f piece new
+digest_left f s next piece new p is = inl (body_left f next, is ∙ p.goes_on)
 
 moved : (f : File) (s next : Stage) (piece : List ℕ) (h h' : Sha256) → IsUnderWay f s h → ((m : List ℕ) → Holds256 h m → Holds256 h' (m ++ piece)) → IsPiece f s piece next → IsUnderWay f next h'
 moved f s next piece h h' u more p = record {

@@ -1,5 +1,5 @@
 -- A file that is given in pieces.
-use Rattle.std.specs.Prelude.{◌≡◌, ℕ, ◌-◌, ◌≤◌, max, List, [], ◌++◌, take, drop, length, refl}
+use Rattle.std.specs.Prelude.{◌≡◌, ◌⊎◌, ℕ, ◌-◌, ◌≤◌, max, List, [], ◌++◌, take, drop, length, refl}
 use Rattle.std.specs.Coded.{Coded, code_by, coded×, coded_ℕ, coded_list}
 use Rattle.std.specs.FinMap.{entries}
 use Rattle.std.specs.List.{flat_map}
@@ -61,6 +61,11 @@ IsGiven f Over hasher = Unit {0}
 pub record IsPiece (f : File) (s : Stage) (piece : List ℕ) (next : Stage) : Type 0 where
   pub is : body_left f s ≡ piece ++ body_left f next
   pub goes_on : left_of f next ≡ body_left f next ++ file_digest f
+
+-- the digest is given alone: what is left ends with it; or nothing is, and the piece is it, unless all was given before
+abbrev pub IsAlone : File → (piece left : List ℕ) → Type 0
+IsAlone f piece left =
+    ((body : List ℕ) × (left ≡ body ++ file_digest f)) ⊎ ((left ≡ []) × ((piece ≡ file_digest f) ⊎ (piece ≡ [])))
 
 -- how many bytes a field has at most: the executed instances, with their number before them, are the longest
 unfoldable pub longest_field : ℕ

@@ -6,7 +6,7 @@ ghost use Rattle.std.specs.List.{flat_map};
 ghost use Rattle.ep_base.specs.Devices.{Puts};
 ghost use Rattle.ep_exec.specs.Bytes.{pair_bytes};
 ghost use Rattle.ep_opening.specs.Bytes.{executed_bytes, opening_bytes};
-ghost use Rattle.ep_opening.specs.Pieces.{bytes_between, head_bytes, longest_field, IsPiece, IsShort};
+ghost use Rattle.ep_opening.specs.Pieces.{bytes_between, head_bytes, longest_field, IsAlone, IsPiece, IsShort};
 ghost use Rattle.ep_opening.specs.declared.stage.Stage.TheVariants.{Front, Entries};
 
 use crate::laws::learn_seal;
@@ -247,11 +247,12 @@ impl Checkpoint {
 
     /// The next bytes: at most `most` of them, or 189,004 where that is more; none where all was given, and else some. The last 32 are given alone: they
     /// are the digest. A field isn't cut: an entry has up to 65,795 bytes, and the executed instances up to 189,004.
-    #[tactic(auto, using(crate::proofs::Giving::piece_left, crate::proofs::Giving::given_more, crate::proofs::Giving::digest_is, crate::proofs::Short::is_something, crate::proofs::Short::sum_short))]
+    #[tactic(auto, using(crate::proofs::Giving::piece_left, crate::proofs::Giving::given_more, crate::proofs::Giving::digest_is, crate::proofs::Giving::digest_left, crate::proofs::Short::is_something, crate::proofs::Short::sum_short))]
     pub fn give(&mut self, alloc: Global, most: usize) -> Result<Vec<u8>, AllocError>
         ensures ok { IfOk result (λ bytes. self.old.left ≡ bytes.items ++ self.new.left) }
         ensures more { IfOk result (λ bytes. bytes.items ≡ [] → self.old.left ≡ []) }
         ensures short { IfOk result (λ bytes. length bytes.items ≤ max most longest_field) }
+        ensures alone { IfOk result (λ bytes. IsAlone self.old.file bytes.items self.new.left) }
         ensures file { self.new.file ≡ self.old.file }
         ensures err { OnErr result (self.new ≡ self.old) }
     {

@@ -1,6 +1,6 @@
 //! Digests of files.
 
-ghost use Rattle.std.specs.Prelude.{◌≡◌, Some};
+ghost use Rattle.std.specs.Prelude.{◌≡◌, ◌-◌, ◌<◌, ◌≤◌, Some, IfSome, IsNone, length, drop};
 ghost use Rattle.sha2.specs.Sha256.{sha256};
 ghost use Rattle.ep_opening.specs.Bytes.{file_digest, opening_bytes};
 ghost use Rattle.ep_opening.specs.Files.{File};
@@ -22,6 +22,8 @@ pub fn digest_of(bytes: &[u8]) -> [u8; 32]
 
 /// The digest that the bytes of a file or of a reference end with, which the log of its generation names; none of fewer than 32 bytes.
 pub fn digest_in(bytes: &[u8]) -> Option<[u8; 32]>
+    ensures last { IfSome result (λ d. (32 ≤ length bytes.now) × (d ≡ drop (length bytes.now - 32) bytes.now)) }
+    ensures none { IsNone result → length bytes.now < 32 }
     ensures file { (f : File) → bytes.now ≡ opening_bytes f → result ≡ Some (file_digest f) }
     ensures reference { (r : Reference) → bytes.now ≡ reference_bytes r → result ≡ Some (reference_digest r) }
 {
