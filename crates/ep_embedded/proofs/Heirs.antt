@@ -1,5 +1,7 @@
 -- The node of the next generation.
-use Rattle.std.proofs.Common.{◌≡◌, ◌≢◌, ℕ, List, Option, Some, Result, Ok, Err, IfOk, IfErr, refl, sym, subst, arith}
+use Rattle.std.proofs.Common.{◌≡◌, ◌≢◌, ℕ, List, Option, Some, Result, Ok, Err, IfOk, IfErr, refl, sym, ap, subst, ◌∙◌, arith}
+use Rattle.std.proofs.lemmas.Bool.{false≢true}
+use Rattle.ep_base.specs.Versions.{generation_of}
 use Rattle.ep_device.specs.declared.host_device.HostDevice.{HostDevice}
 use Rattle.ep_log.specs.Origins.{Origin}
 use Rattle.ep_node.specs.Closing as node
@@ -15,7 +17,7 @@ use Rattle.ep_embedded.specs.Beginning.{IsBegunAs, IsUnbegunAs, IsUnfounded}
 use Rattle.ep_embedded.specs.Bound.{IsBegunBound, IsUnbegunBound, IsUnbegunWith}
 use Rattle.ep_embedded.specs.Faults.{of_close, of_open, of_reopen}
 use Rattle.ep_embedded.specs.Hosting.{Hosting, IsOnDisk}
-use Rattle.ep_embedded.specs.Succeeding.{IsBegunBy, IsLost, IsUnbegunBy, IsUnsucceeded, origin_by}
+use Rattle.ep_embedded.specs.Succeeding.{IsBegunBy, IsGone, IsLost, IsUnbegunBy, IsUnsucceeded, MaySucceed, origin_by}
 use Rattle.ep_embedded.specs.declared.heir.Heir.{Heir}
 use Rattle.ep_embedded.specs.declared.start_fault.StartFault.{StartFault}
 use Rattle.ep_embedded.specs.declared.start_fault.StartFault.TheVariants as start
@@ -107,3 +109,17 @@ lost_so h heir log n file NotSealed is closed un = absurd un
 lost_so h heir log n file LastGeneration is closed un = absurd un
 lost_so h heir log n file Unsynced is closed un = absurd un
 lost_so h heir log n file (Log fault) is closed un = (file, closed_so h heir n file is closed, un)
+
+-- a node that may be succeeded is gone for memory or for the log alone
+pub gone : (h : Hosting) (heir : Heir) (log : Option (List ℕ)) (fault : SucceedFault) → MaySucceed h heir
+    → IsLost h heir log fault → IsGone h heir log fault
+gone h heir log Memory may lost = may
+gone h heir log OutOfRange may lost = absurd (let below = may.member in let above = lost in omega arith)
+gone h heir log NotSealed may lost = absurd (false≢true (sym lost.1.1 ∙ may.next.closed))
+gone h heir log LastGeneration may lost =
+    let next = may.next.generation in
+    let left = may.left in
+    let last = ap generation_of lost.1.1.1 in
+    absurd (omega arith)
+gone h heir log Unsynced may lost = absurd (lost may.on_disk)
+gone h heir log (Log fault) may lost = (may, lost)

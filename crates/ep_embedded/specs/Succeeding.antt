@@ -36,6 +36,7 @@ pub record MaySucceed (h : Hosting) (heir : Heir) : Type 0 where
   pub on_disk : IsOnDisk h
   pub generation : ℕ
   pub next : IsNext h.node.replica generation
+  pub left : generation ≤ 4294967295
   pub member : heir.me < size heir.cluster
 
 -- it began with the file that `closing` names the node before
@@ -61,3 +62,12 @@ IsLost h heir log NotSealed = IsUnsucceeded h heir NotSealed
 IsLost h heir log LastGeneration = IsUnsucceeded h heir LastGeneration
 IsLost h heir log Unsynced = IsUnsucceeded h heir Unsynced
 IsLost h heir log (Log fault) = (file : File) × IsClosing h.node.replica heir.cluster file × IsUnbegunBy heir file log (Log fault)
+
+-- why a node is gone that may be succeeded: out of memory; or the log can't be gone on from, by a replica of the file
+abbrev pub IsGone : Hosting → Heir → Option (List ℕ) → SucceedFault → Type 0
+IsGone h heir log Memory = MaySucceed h heir
+IsGone h heir log OutOfRange = ⊥
+IsGone h heir log NotSealed = ⊥
+IsGone h heir log LastGeneration = ⊥
+IsGone h heir log Unsynced = ⊥
+IsGone h heir log (Log fault) = MaySucceed h heir × IsLost h heir log (Log fault)

@@ -51,7 +51,8 @@ impl Hosted {
         if !self.is_on_disk() {
             return Err(SucceedFault::Unsynced);
         }
-        let _generation = self.node.check_close()?;
+        let generation = self.node.check_close()?;
+        let _number = generation.number();
         if heir.me.index() >= heir.cluster.count() {
             return Err(SucceedFault::OutOfRange);
         }
@@ -62,7 +63,8 @@ impl Hosted {
     /// heir's cluster and number. With no log it is new; with the bytes of one, as after a start, it goes on from
     /// there. It begins with the map as it is, of which nothing is copied. Its log names the heir's digest, by which
     /// the host finds the opening again, and comes first, as after `open`. And the file that it opened with, which
-    /// shares its entries: to be written when there is time.
+    /// shares its entries: to be written when there is time. What was asked and not answered, prepared and not
+    /// reported, or taken and not reported is dropped with this node.
     ///
     /// At `Err` this node is gone; its log is on the disk. Ask `check_succeed` before: then only memory can be refused, or the log.
     pub fn succeed(

@@ -1,8 +1,9 @@
 -- What there is of the next generation.
 use Rattle.std.proofs.Common.{◌≡◌, ◌⊎◌, ℕ, inl, inr, List, [], Option, Some, None, Result, Ok, Err, IfOk, IfErr, refl, ap, sym, subst, ◌∙◌}
+use Rattle.ep_embedded.proofs.Heirs.{gone}
 use Rattle.ep_embedded.specs.Bound.{IsBegunBound, IsUnbegunBound}
 use Rattle.ep_embedded.specs.Hosting.{Hosting}
-use Rattle.ep_embedded.specs.Succeeding.{HasSucceeded, IsLost}
+use Rattle.ep_embedded.specs.Succeeding.{HasSucceeded, IsLost, MaySucceed}
 use Rattle.ep_embedded.specs.declared.heir.Heir.{Heir}
 use Rattle.ep_embedded.specs.declared.hosted_checkpoint.HostedCheckpoint.{HostedCheckpoint}
 use Rattle.ep_embedded.specs.declared.start_fault.StartFault.{StartFault}
@@ -48,7 +49,8 @@ pub gone_on : (status : ℕ) (h own : Hosting) (s : Succession) (heir : Heir) (k
 gone_on status h own s heir k file new left is spare same succeeded keeps =
     inr (inr (heir, is, spare, inl (refl, (k, file, subst (λ (x : Hosting). HasSucceeded x heir (log_given s.is_new s.log.now) file k) same succeeded, keeps))))
 
--- it is gone
-pub is_gone : (status : ℕ) (reported : Option Place) (h own : Hosting) (s : Succession) (heir : Heir) (fault : SucceedFault) (new : Option Hosting) (left : Option HostedCheckpoint) → IsHeir s heir → ¬ IsSpareLog s → own ≡ h → IsLost own heir (log_given s.is_new s.log.now) fault → status ≡ succeed_status fault → reported ≡ succeed_place fault → new ≡ None → left ≡ None → Succeeds status reported h s new left
-is_gone status reported h own s heir fault new left is spare same lost why place none free =
-    inr (inr (heir, is, spare, inr (inr (fault, why, place, subst (λ (x : Hosting). IsLost x heir (log_given s.is_new s.log.now) fault) same lost, none, free))))
+-- it is gone, though it might go on
+pub is_gone : (status : ℕ) (reported : Option Place) (h own : Hosting) (s : Succession) (heir : Heir) (fault : SucceedFault) (new : Option Hosting) (left : Option HostedCheckpoint) → IsHeir s heir → ¬ IsSpareLog s → own ≡ h → MaySucceed h heir → IsLost own heir (log_given s.is_new s.log.now) fault → status ≡ succeed_status fault → reported ≡ succeed_place fault → new ≡ None → left ≡ None → Succeeds status reported h s new left
+is_gone status reported h own s heir fault new left is spare same may lost why place none free =
+    let log = log_given s.is_new s.log.now in
+    inr (inr (heir, is, spare, inr (inr (fault, why, place, gone h heir log fault may (subst (λ (x : Hosting). IsLost x heir log fault) same lost), none, free))))

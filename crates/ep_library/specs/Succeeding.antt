@@ -3,7 +3,7 @@ use Rattle.std.specs.Prelude.{◌≡◌, ◌≢◌, ◌≤◌, ◌<◌, ◌⊎�
 use Rattle.std.specs.Option.{MatchOption}
 use Rattle.ep_base.specs.Quorums.{size}
 use Rattle.ep_embedded.specs.Hosting.{Hosting}
-use Rattle.ep_embedded.specs.Succeeding.{HasSucceeded, IsLost, IsUnsucceeded}
+use Rattle.ep_embedded.specs.Succeeding.{HasSucceeded, IsGone, IsLost, IsUnsucceeded}
 use Rattle.ep_embedded.specs.declared.heir.Heir.{Heir}
 use Rattle.ep_embedded.specs.declared.hosted_checkpoint.HostedCheckpoint.{HostedCheckpoint}
 use Rattle.ep_embedded.specs.declared.succeed_fault.SucceedFault.{SucceedFault}
@@ -108,12 +108,12 @@ abbrev pub Follows : Hosting → Heir → Option (List ℕ) → Result (Hosting 
 Follows h heir log (Ok next) = HasSucceeded h heir log next.1 next.0
 Follows h heir log (Err fault) = IsLost h heir log fault
 
--- It goes on; or it was refused, and is as it was; or it can't go on from the log, and where that is wrong is reported, or there was no memory, and it is gone.
+-- It goes on; or it was refused, and is as it was; or it may go on, but can't from the log, and where that is wrong is reported, or there was no memory, and it is gone.
 abbrev pub SucceedsAs : ℕ → Option Place → Hosting → Heir → Option (List ℕ) → Option Hosting → Option HostedCheckpoint → Type 0
 SucceedsAs status reported h heir log new kept =
     ((reported ≡ None) × ((k : Hosting) × (file : File) × HasSucceeded h heir log file k × KeepsBoth status k file new kept))
     ⊎ (((fault : SucceedFault) × (status ≡ succeed_status fault) × (fault ≢ Memory) × (reported ≡ None) × IsUnsucceeded h heir fault × (new ≡ Some h) × (kept ≡ None))
-    ⊎ ((fault : SucceedFault) × (status ≡ succeed_status fault) × (reported ≡ succeed_place fault) × IsLost h heir log fault × (new ≡ None) × (kept ≡ None)))
+    ⊎ ((fault : SucceedFault) × (status ≡ succeed_status fault) × (reported ≡ succeed_place fault) × IsGone h heir log fault × (new ≡ None) × (kept ≡ None)))
 
 -- the same of the arguments, which may name no heir, or a new one with a log
 abbrev pub Succeeds : ℕ → Option Place → Hosting → Succession → Option Hosting → Option HostedCheckpoint → Type 0
