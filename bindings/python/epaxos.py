@@ -514,7 +514,7 @@ class Replica:
 
     @_in_turn
     def succeed(self, reference, me, log=None, told=None):
-        """Goes on in the next generation, once a seal was executed and all that was taken is on the disk and told: it is replica `me` of that one then, with the map as it is. Its log
+        """Goes on in the next generation, once a seal was executed and all that was taken is on the disk and told (what isn't told is dropped): it is replica `me` of that one then, with the map as it is. Its log
         comes first, as of `new`, and names the reference. What is returned gives the file that the generation opens with, in pieces: a `Checkpoint`.
 
         The order on the disk, for generation G + 1: `reference.bytes` as `G+1/reference`; this call; `G+1/log`, which `ready` lends; the mark `G/left`; and only then `synced`. When

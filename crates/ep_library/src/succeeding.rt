@@ -217,10 +217,11 @@ fn succeeds(
 }
 
 /// Goes on in the next generation, once a seal was executed here, all is on the disk and nothing is lent: the replica
-/// is then that of the next generation, new, with the map as it is, of which nothing is copied. ep_ready lends the
-/// header of its log, which names the digest. Behind `checkpoint` is then the file that it opened with, which shares
-/// the map, and what is left of this generation: write it, and let the rest go (ep_checkpoint_rest), when there is
-/// time. After a start the replica goes through the generations since the last whole opening by this call, with the
+/// is then that of the next generation, new, with the map as it is, of which nothing is copied. What was asked and not
+/// answered, prepared and not told, or taken and not told is dropped: call ep_answers, or ep_told, before. ep_ready
+/// lends the header of its log, which names the digest. Behind `checkpoint` is then the file that it opened with, which
+/// shares the map, and what is left of this generation: write it, and let the rest go (ep_checkpoint_rest), when there
+/// is time. After a start the replica goes through the generations since the last whole opening by this call, with the
 /// log of each. EP_NO_REPLICA, EP_UNSYNCED; EP_NOT_SEALED; EP_LAST_GENERATION; EP_HAS_CHECKPOINT; EP_LOG_EXISTS;
 /// EP_OUT_OF_RANGE: `digest` hasn't 32 bytes, `replicas` isn't 3, 5 or 7, or `replica` isn't below it: all is as it
 /// was. EP_MEMORY, and each other status from EP_NO_LOG on, by which the log is refused, where `place` becomes the

@@ -160,7 +160,7 @@ impl Replica {
         Reference::new(next, generation, self.own_log.bytes, sum)
     }
 
-    /// Goes on in the next generation, once a seal was executed here and all that was taken is on the disk and reported: the replica is then that of the next one, with the map
+    /// Goes on in the next generation, once a seal was executed here and all that was taken is on the disk and reported (what isn't reported is dropped): the replica is then that of the next one, with the map
     /// as it is, of which nothing is copied. As after [`new`](Replica::new) its log comes first, a log of its own, whose header names the reference's digest.
     /// So the map is on the disk by the reference; write the file when there is time: the [`Checkpoint`] gives it in pieces, to any thread.
     ///
