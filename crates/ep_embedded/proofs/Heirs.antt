@@ -1,6 +1,7 @@
 -- The node of the next generation.
-use Rattle.std.proofs.Common.{◌≡◌, ◌≢◌, ℕ, List, Option, Some, Result, Ok, Err, IfOk, IfErr, refl, sym, ap, subst, ◌∙◌, arith}
+use Rattle.std.proofs.Common.{◌≡◌, ◌≢◌, ◌<◌, ◌≤◌, ℕ, List, Option, Some, Result, Ok, Err, IfOk, IfErr, refl, sym, ap, subst, ◌∙◌, arith}
 use Rattle.std.proofs.lemmas.Bool.{false≢true}
+use Rattle.ep_base.specs.Quorums.{size}
 use Rattle.ep_base.specs.Versions.{generation_of}
 use Rattle.ep_device.specs.declared.host_device.HostDevice.{HostDevice}
 use Rattle.ep_log.specs.Origins.{Origin}
@@ -114,12 +115,15 @@ lost_so h heir log n file (Log fault) is closed un = (file, closed_so h heir n f
 pub gone : (h : Hosting) (heir : Heir) (log : Option (List ℕ)) (fault : SucceedFault) → MaySucceed h heir
     → IsLost h heir log fault → IsGone h heir log fault
 gone h heir log Memory may lost = may
-gone h heir log OutOfRange may lost = absurd (let below = may.member in let above = lost in omega arith)
+gone h heir log OutOfRange may lost =
+    let below : heir.me < size heir.cluster = may.member in
+    let above : size heir.cluster ≤ heir.me = lost in
+    absurd (omega arith)
 gone h heir log NotSealed may lost = absurd (false≢true (sym lost.1.1 ∙ may.next.closed))
 gone h heir log LastGeneration may lost =
     let next = may.next.generation in
     let left = may.left in
-    let last = ap generation_of lost.1.1.1 in
+    let last : generation_of h.node.replica.version ≡ 4294967295 = ap generation_of lost.1.1.1 in
     absurd (omega arith)
 gone h heir log Unsynced may lost = absurd (lost may.on_disk)
 gone h heir log (Log fault) may lost = (may, lost)
