@@ -125,7 +125,7 @@ def tried(node=BUILT[0], program=BUILT[1], library=None):
             well.append(is_well([*trial, *TRIAL, *CHECKPOINTS, "--dir", f"{scratch}/trial"]))
             well.append(is_well([*trial, *BANK, "--dir", f"{scratch}/bank"]))
             well.append(is_well([*trial, *GROWING, "--dir", f"{scratch}/growing"]))
-            # (it judges waits: it is played again over links that take longer, as what a slow machine adds counts less)
+            # (it judges waits by what the machine adds: it is played again over longer links, as that counts less there)
             distance = [*trial, *DISTANCE, "--dir"]
             times = enumerate(("1", "4", "4"))
             well.append(any(is_well([*distance, f"{scratch}/{turn}", "--times", it]) for turn, it in times))

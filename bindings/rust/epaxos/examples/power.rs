@@ -189,7 +189,7 @@ fn live(folder: Folder) -> Res<()> {
     Err("it comes to no end".into())
 }
 
-/// Asks, until a later generation has begun and the first is dropped, however long threads take for that.
+/// Asks, until a later generation was reported and the first is dropped, however long threads take for that.
 fn serve(place: &str) -> Res<()> {
     let folder = Folder::open(place)?;
     let (network, mut answered) = (LocalNetwork::new(Cluster::Three), [0, 0]);
@@ -200,10 +200,9 @@ fn serve(place: &str) -> Res<()> {
         let (settings, link) = link(me);
         Service::with_machine(&settings, Start::New, (MemoryDisk::default(), link), SystemClock, Count(0))
     };
-    let _others = [other(1)?, other(2)?];
+    let (_others, mut reported) = ([other(1)?, other(2)?], 0);
     for asked in 1..=MOST_ASKS {
-        let is_enough = || first.status().is_ok_and(|it| it.generation > 3) && !Path::new(place).join("1").exists();
-        if asked > ASKS && is_enough() {
+        if asked > ASKS && reported > 3 && !Path::new(place).join("1").exists() {
             break;
         }
         loop {
@@ -221,7 +220,9 @@ fn serve(place: &str) -> Res<()> {
                 done => break done??,
             }
         }
-        report(&first.status()?, answered)?;
+        let status = first.status()?;
+        report(&status, answered)?;
+        reported = status.generation;
     }
     Ok(first.stop()?)
 }

@@ -1,5 +1,6 @@
 //! A play over distance: the links take as long as those between regions, clients ask the store of their own region, and it is judged how long they
 //! wait. Nobody sets the time by hand: what a command should take follows from the round trips and the fast quorums.
+//! What the machine adds, which may be busy, is measured at the end, over links that take no time.
 use crate::cluster::Cluster;
 use crate::options::Options;
 use std::fmt;
@@ -165,23 +166,51 @@ pub struct Begun {
 /// The commands of the clients of each site.
 type All = Vec<Vec<Timed>>;
 
+/// A wait that is judged once it is known what the machine adds: how long it was, how long it may be, and how many
+/// times that may come to it.
+struct Judged {
+    fault: String,
+    took: Duration,
+    may: Duration,
+    times: u32,
+}
+
+/// What was found.
+#[derive(Default)]
+struct Found {
+    faults: Vec<String>,
+    judged: Vec<Judged>,
+}
+
 /// Plays what the options ask for: the faults that were found.
 pub fn run(options: &Options, cluster: &Cluster) -> Result<Vec<String>, String> {
     let sites = &options.sites;
     cluster.set_distances(sites, None);
     (0..sites.count()).try_for_each(|replica| cluster.await_answer(replica))?;
-    let mut faults = Vec::new();
+    let mut found = Found::default();
     for share in &options.shares {
-        faults.extend(measure(options, cluster, *share)?);
+        measure(options, cluster, *share, &mut found)?;
     }
     for trouble in &options.troubles {
-        faults.extend(trouble_at(options, cluster, *trouble, options.troubled)?);
+        trouble_at(options, cluster, *trouble, &mut found)?;
     }
-    Ok(faults)
+    let added = added(cluster, sites)?;
+    println!("{} ms without distance", added.as_millis());
+    let late = found.judged.into_iter().filter(|it| it.took > it.may + added * it.times).map(|it| it.fault);
+    Ok(found.faults.into_iter().chain(late).collect())
+}
+
+/// What the machine adds to a command: half of them take no longer over links that take no time.
+fn added(cluster: &Cluster, sites: &Sites) -> Result<Duration, String> {
+    cluster.links.iter().flatten().flatten().for_each(|link| link.set_delay(Duration::ZERO));
+    let end = WARM + SETTLING;
+    let all = play(cluster, sites, (0, 0), end, || Ok(()))?;
+    let medians = all.iter().filter_map(|commands| part(&waits(commands, WARM, end, |_| true), 50));
+    Ok(medians.max().unwrap_or_default())
 }
 
 /// Without trouble, so many of 100 commands being of one key.
-fn measure(options: &Options, cluster: &Cluster, share: u64) -> Result<Vec<String>, String> {
+fn measure(options: &Options, cluster: &Cluster, share: u64, found: &mut Found) -> Result<(), String> {
     let sites = &options.sites;
     let before = begun(cluster)?;
     let all = play(cluster, sites, (share, options.reads), options.time, || Ok(()))?;
@@ -191,7 +220,6 @@ fn measure(options: &Options, cluster: &Cluster, share: u64) -> Result<Vec<Strin
          reads, expected | others | the one key | second phases | recoveries |"
     );
     println!("|---|---|---|---|---|---|---|---|---|");
-    let mut faults = Vec::new();
     for (replica, commands) in all.iter().enumerate() {
         let of = |is_hot: bool, is_read: bool| {
             waits(commands, WARM, options.time, |it| it.is_hot == is_hot && it.is_read == is_read)
@@ -216,26 +244,26 @@ fn measure(options: &Options, cluster: &Cluster, share: u64) -> Result<Vec<Strin
         );
         if share == 0 {
             if options.reads < 100 {
-                faults.extend(too_long(options, replica, &cold, expected, "without trouble"));
+                found.judge(options, replica, &cold, expected, "without trouble");
             }
             if options.reads > 0 {
-                faults.extend(too_long(options, replica, &reads, expected_of_reads, "of reads"));
+                found.judge(options, replica, &reads, expected_of_reads, "of reads");
             }
-            faults.extend(refused(sites, replica, commands));
+            found.faults.extend(refused(sites, replica, commands));
             if slow != (Begun { accepts: 0, recoveries: 0 }) {
-                faults.push(format!("{}: not every command has taken the fast path", sites.name(replica)));
+                found.faults.push(format!("{}: not every command has taken the fast path", sites.name(replica)));
             }
         }
     }
     let seconds = options.time.saturating_sub(WARM).as_secs_f64();
     let count: usize = all.iter().map(|commands| waits(commands, WARM, options.time, |_| true).len()).sum();
     println!("{:.0} commands a second", count as f64 / seconds);
-    Ok(faults)
+    Ok(())
 }
 
 /// Something happens to a replica, and is over after a while, unless it was killed.
-fn trouble_at(options: &Options, cluster: &Cluster, trouble: Trouble, at: usize) -> Result<Vec<String>, String> {
-    let sites = &options.sites;
+fn trouble_at(options: &Options, cluster: &Cluster, trouble: Trouble, found: &mut Found) -> Result<(), String> {
+    let (sites, at) = (&options.sites, options.troubled);
     let (begin, end) = (WARM + SETTLING, WARM + SETTLING + TROUBLE);
     let time = end + 2 * SETTLING;
     let all = play(cluster, sites, (0, 0), time, || {
@@ -259,7 +287,6 @@ fn trouble_at(options: &Options, cluster: &Cluster, trouble: Trouble, at: usize)
     );
     println!("|---|---|---|---|---|---|---|---|");
     let settled = begin + SETTLING;
-    let mut faults = Vec::new();
     for (replica, commands) in all.iter().enumerate() {
         let of = |from, to| waits(commands, from, to, |_| true);
         let (expected, within) = (sites.expected(replica, None), sites.expected(replica, Some((trouble, at))));
@@ -284,18 +311,17 @@ fn trouble_at(options: &Options, cluster: &Cluster, trouble: Trouble, at: usize)
             continue;
         }
         if trouble == Trouble::Far {
-            faults.extend(refused(sites, replica, commands));
+            found.faults.extend(refused(sites, replica, commands));
         }
         let for_good = if trouble == Trouble::Killed { within } else { expected };
-        faults.extend(too_long(options, replica, &then, within, &format!("while {} is {trouble}", sites.name(at))));
-        faults.extend(too_long(options, replica, &last, for_good, "at the end"));
+        found.judge(options, replica, &then, within, &format!("while {} is {trouble}", sites.name(at)));
+        found.judge(options, replica, &last, for_good, "at the end");
         let more = if trouble == Trouble::Killed { MOST_AT_DEATH } else { MOST_AT_SILENCE };
-        let most = within * ROUND_TRIPS_OF_RECOVERY + more * sites.times as u32;
-        if longest > most {
-            faults.push(format!("{}: a command took {} ms", sites.name(replica), longest.as_millis()));
-        }
+        let may = within * ROUND_TRIPS_OF_RECOVERY + more * sites.times as u32;
+        let fault = format!("{}: a command took {} ms", sites.name(replica), longest.as_millis());
+        found.judged.push(Judged { fault, took: longest, may, times: 1 + ROUND_TRIPS_OF_RECOVERY });
     }
-    Ok(faults)
+    Ok(())
 }
 
 /// A fault, where some commands of a site weren't done.
@@ -304,15 +330,18 @@ fn refused(sites: &Sites, replica: usize, commands: &[Timed]) -> Option<String> 
     (count > 0).then(|| format!("{}: {count} commands were refused", sites.name(replica)))
 }
 
-/// A fault, where half of the commands of a site took longer than they may.
-fn too_long(options: &Options, replica: usize, waits: &[Duration], expected: Duration, when: &str) -> Option<String> {
-    let name = options.sites.name(replica);
-    let Some(median) = part(waits, 50) else { return Some(format!("{name}: no command was told {when}")) };
-    let (median, expected) = (median.as_millis(), expected.as_millis());
-    let is_late = median * 100 > expected * u128::from(options.most_parts);
-    is_late.then(|| {
-        format!("{name}: half of the commands took more than {median} ms {when}, where a round trip takes {expected}")
-    })
+impl Found {
+    /// Half of the commands of a site may take so long.
+    fn judge(&mut self, options: &Options, replica: usize, waits: &[Duration], expected: Duration, when: &str) {
+        let name = options.sites.name(replica);
+        let Some(took) = part(waits, 50) else {
+            self.faults.push(format!("{name}: no command was told {when}"));
+            return;
+        };
+        let times = format!("{} ms {when}, where a round trip takes {}", took.as_millis(), expected.as_millis());
+        let fault = format!("{name}: half of the commands took more than {times}");
+        self.judged.push(Judged { fault, took, may: expected * options.most_parts / 100, times: 1 });
+    }
 }
 
 /// Clients at all sites for so long, while something happens.
