@@ -38,7 +38,7 @@ pub struct Settings {
     /// A call that can't be proposed is held for so long, and then refused.
     pub patience: Duration,
     /// Puts and deletes of different keys that wait at the same time are proposed as one command, so many at most: up
-    /// to 16, of 32 KiB together. 1: each by itself. Where the replicas are 20 ms apart each goes by itself, too.
+    /// to 16, of 32 KiB together. 1: each by itself. Where the replicas are 20 ms apart only what waits goes together.
     pub together: usize,
     /// The map may have so many bytes, where it is bounded: a key takes its own, its value's and 5. What might make it
     /// longer is refused ([`Refusal::MapFull`](super::Refusal::MapFull)), in the last sixteenth maybe earlier. The same

@@ -6,6 +6,7 @@ use crate::parts::progress::Progress;
 use crate::parts::room::{Judgement, Room};
 use crate::parts::together::{Asked, FAR, Together, Whole};
 use crate::parts::under_way::{UnderWay, Waiting, length};
+use crate::parts::window::Window;
 use crate::{Answer, Call, Fault, Instance, MOST_COMMANDS, Proposed};
 use std::collections::VecDeque;
 use std::time::{Duration, Instant};
@@ -79,6 +80,10 @@ pub enum Fate {
 pub struct Calls<M> {
     pub held: VecDeque<M>,
     pub waiting: UnderWay<M>,
+    /// How many of these there may be.
+    pub window: Window,
+    /// Whether some were held when there was no more room: what waits goes together, however far others are.
+    pub waits: bool,
     /// How much the map may grow.
     pub room: Room,
     /// Since when no majority is known to be reached.
@@ -96,6 +101,8 @@ impl<M: Called> Calls<M> {
         Calls {
             held: VecDeque::new(),
             waiting: UnderWay::default(),
+            window: Window::default(),
+            waits: false,
             room: Room::new(most_map),
             alone_since: None,
             patience,
@@ -149,10 +156,18 @@ impl<M: Called> Calls<M> {
         if self.held.is_empty() || progress.generation.is_holding() {
             return released;
         }
+        if let Some(waits) = progress.distances.waits() {
+            self.window.look(self.waiting.count(), waits, now);
+        }
         let is_apart = progress.distances.quorum().is_some_and(|takes| takes >= FAR);
-        let mut together = Together::new(if is_apart { 1 } else { self.most_together });
+        let mut together = Together::new(if is_apart && !self.waits { 1 } else { self.most_together });
         let (mut count, mut bytes, mut left) = (0, 0, VecDeque::new());
-        while progress.generation.has_room(count) && self.waiting.has_room(count, bytes) {
+        while let Some(held) = self.held.front() {
+            // (one that doesn't go with those before it comes behind them)
+            let before = released.wholes.len() + usize::from(together.is_before(held.command()));
+            if !progress.generation.has_room(count) || !self.has_room(before, bytes) {
+                break;
+            }
             let Some(held) = self.held.pop_front() else { break };
             let judgement = self.room.judge(held.command());
             progress.generation.is_short |= judgement.ends(progress.generation.begun, now);
@@ -170,12 +185,18 @@ impl<M: Called> Calls<M> {
         released.wholes.extend(together.end());
         let more = released.wholes.iter().map(|whole| whole.members.len() as u64).filter(|count| *count > 1);
         self.together += more.sum::<u64>();
+        self.waits = !self.held.is_empty();
         // (what finds no room in the map stands before what came later)
         if !left.is_empty() {
             left.append(&mut self.held);
             self.held = left;
         }
         released
+    }
+
+    /// Whether another one may be in flight, behind so many that are about to be proposed, of so many bytes.
+    fn has_room(&self, count: usize, bytes: usize) -> bool {
+        self.waiting.count() + count < self.window.size() && self.waiting.has_room(bytes)
     }
 
     /// What came of a request. `proposed` has the instances of those that are proposals, in their order. None where
@@ -334,6 +355,42 @@ mod tests {
         it.held.push_back(put(15, start));
         progress.commit_seal();
         assert_eq!((keys(&it.release(&mut progress, start)), it.is_empty()), ((vec![], vec![]), false));
+    }
+
+    #[test]
+    fn as_many_as_the_window_are_in_flight_and_what_waits_goes_together() {
+        let start = Instant::now();
+        let (_, mut progress) = calls(3, start);
+        let reach = |progress: &mut Progress| {
+            [1, 2].into_iter().for_each(|peer| {
+                progress.links[usize::from(peer)] = true;
+                progress.hear_hello(peer, (0, false, 0));
+            });
+        };
+        reach(&mut progress);
+        // Replica 2 is spared. The other one is far.
+        (0..8).for_each(|_| progress.distances.note(1, FAR, start));
+        let mut it = Calls::new(Duration::from_secs(5), 16, None);
+        it.held.extend((0..68).map(|key| put(key, start)));
+        let first = keys(&it.release(&mut progress, start)).0;
+        assert_eq!((first.len(), first.iter().all(|whole| whole.len() == 1), it.held.len()), (32, true, 36));
+        let instance = Instance { replica: 0, number: 1 };
+        let whole = |key: u8| Whole { members: Vec::new(), command: put(key, start).1 };
+        (0..32).for_each(|key| it.waiting.insert((9, u32::from(key)), Waiting::new(instance, whole(key))));
+        assert!(keys(&it.release(&mut progress, start)).0.is_empty());
+        (0..2).for_each(|request| _ = it.answer((9, request), &Answer::Absent));
+        let next = keys(&it.release(&mut progress, start)).0;
+        assert_eq!(next.iter().map(Vec::len).collect::<Vec<_>>(), [16, 16]);
+        // What is near goes together at once, whatever queues there are later.
+        (0..32).for_each(|request| _ = it.answer((9, request), &Answer::Absent));
+        it.release(&mut progress, start);
+        assert!(it.held.is_empty() && !it.waits);
+        it.held.extend([put(1, start), put(2, start)]);
+        assert_eq!(keys(&it.release(&mut progress, start)).0, [[1], [2]]);
+        progress.distances.note(1, FAR / 2, start);
+        (0..100).for_each(|_| progress.distances.note(1, FAR * 5, start));
+        it.held.extend([put(1, start), put(2, start)]);
+        assert_eq!(keys(&it.release(&mut progress, start)).0, [[1, 2]]);
     }
 
     #[test]

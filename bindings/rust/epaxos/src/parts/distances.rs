@@ -1,5 +1,6 @@
 //! How far the peers are, by pings, and which of them proposals spare: the farthest one, or one that isn't reached; and
 //! which have fallen silent.
+use crate::parts::least::Least;
 use std::collections::VecDeque;
 use std::time::{Duration, Instant};
 
@@ -9,10 +10,6 @@ const BETWEEN_PINGS: Duration = Duration::from_millis(250);
 const MOST_PINGS: usize = 32;
 /// Where this replica was away for so long, what came meanwhile may have come long ago.
 const AWAY: Duration = Duration::from_millis(500);
-/// The shortest of the last round trips shows how far a peer is, whatever else the machines do: of so many, once there
-/// are so many.
-const KEPT: usize = 32;
-const FEWEST: usize = 8;
 /// Another peer is spared only where its answers take longer by one part in so many, and by so much: so the choice
 /// stays among peers that are about as far.
 const PARTS: u32 = 16;
@@ -36,10 +33,11 @@ struct Distance {
     /// The pings that it hasn't answered, with their numbers, and when the next one is due.
     pings: VecDeque<(u64, Instant)>,
     due: Instant,
-    /// The last round trips, of pings and of proposals, and the shortest of these.
-    last: VecDeque<Duration>,
-    shortest: Duration,
-    /// The smoothed time that proposals took it.
+    /// How far it is: the least round trip of pings and of proposals. All others have queues in them, and whoever takes
+    /// a queue for distance makes it longer.
+    distance: Least,
+    /// The least time that proposals took it, syncs included, and the smoothed one.
+    least: Least,
     answers: Option<Duration>,
     /// How much its pongs vary, likewise.
     variation: Duration,
@@ -67,8 +65,8 @@ impl Distances {
             smoothed: None,
             pings: VecDeque::new(),
             due: now,
-            last: VecDeque::new(),
-            shortest: Duration::ZERO,
+            distance: Least::default(),
+            least: Least::default(),
             answers: None,
             variation: Duration::ZERO,
             owed: VecDeque::new(),
@@ -111,7 +109,8 @@ impl Distances {
     /// Something has come from a peer.
     pub fn hear(&mut self, peer: u8, now: Instant) {
         let Some(peer) = self.peer(peer) else { return };
-        while peer.owed.front().is_some_and(|sent| *sent + peer.shortest <= now) {
+        let takes = peer.distance.of_any();
+        while peer.owed.front().is_some_and(|sent| *sent + takes <= now) {
             peer.owed.pop_front();
         }
     }
@@ -157,7 +156,7 @@ impl Distances {
         let took = now.saturating_duration_since(sent);
         of.variation = of.smoothed.map_or(took / 2, |before| (of.variation * 3 + before.abs_diff(took)) / 4);
         of.smoothed = smoothed(of.smoothed, took);
-        of.note(took);
+        of.distance.note(took, now);
         self.hear(peer, now);
         let answers = self.peers.iter().filter_map(|peer| peer.answers).max()?;
         Some(took.max(answers)).filter(|_| peer == self.spared)
@@ -167,19 +166,31 @@ impl Distances {
     pub fn note(&mut self, peer: u8, took: Duration, now: Instant) {
         let Some(of) = self.peer(peer) else { return };
         of.answers = smoothed(of.answers, took);
-        of.note(took);
+        of.least.note(took, now);
+        of.distance.note(took, now);
         self.hear(peer, now);
     }
 
-    /// How long an answer of this peer takes at least, by the last ones. None: too few have come.
+    /// How long an answer of this peer took at least in the last minute. None: too few have come.
     pub fn shortest(&self, peer: u8) -> Option<Duration> {
-        self.peers.get(usize::from(peer)).filter(|peer| peer.last.len() >= FEWEST).map(|peer| peer.shortest)
+        self.peers.get(usize::from(peer)).and_then(|peer| peer.distance.get())
     }
 
-    /// How long the answers of those take at least that proposals ask: of the farthest one. None: too few have come.
+    /// How far those are that proposals ask: the farthest one. None: too few answers have come.
     pub fn quorum(&self) -> Option<Duration> {
-        let all = (0..self.peers.len() as u8).filter(|peer| *peer != self.me && *peer != self.spared);
-        all.filter_map(|peer| self.shortest(peer)).max()
+        self.asked().filter_map(|peer| peer.distance.get()).max()
+    }
+
+    /// How long their answers to proposals took at least in the last minute, and take now. None: too few have come.
+    pub fn waits(&self) -> Option<(Duration, Duration)> {
+        let least = self.asked().filter_map(|peer| peer.least.get()).max()?;
+        Some((least, self.asked().filter_map(|peer| peer.answers).max()?))
+    }
+
+    /// Those whom proposals ask.
+    fn asked(&self) -> impl Iterator<Item = &Distance> {
+        let is_asked = |place: usize| place != usize::from(self.me) && place != usize::from(self.spared);
+        self.peers.iter().enumerate().filter(move |(place, _)| is_asked(*place)).map(|(_, peer)| peer)
     }
 
     /// The replica that proposals spare, by what is known now: one that isn't reached, or else the one whose answers
@@ -251,14 +262,6 @@ impl Takes {
 }
 
 impl Distance {
-    fn note(&mut self, took: Duration) {
-        let dropped = if self.last.len() == KEPT { self.last.pop_front() } else { None };
-        self.last.push_back(took);
-        if self.last.len() == 1 || took < self.shortest || dropped == Some(self.shortest) {
-            self.shortest = self.last.iter().min().copied().unwrap_or_default();
-        }
-    }
-
     /// When it is silent where nothing comes from it before. None: it owes nothing, or isn't reached.
     fn silent_from(&self) -> Option<Instant> {
         let sent = self.owed.front().filter(|_| self.is_reached)?;
@@ -419,23 +422,32 @@ mod tests {
         assert_eq!(it.answer(1, number, later), None);
         it.look(later, sent);
         assert_eq!((it.answer(1, number, later), it.choose(later)), (None, 1));
-        assert!(it.peers.iter().all(|peer| peer.pings.is_empty() && peer.last.iter().all(|took| *took < ms(200))));
+        assert!(it.peers.iter().all(|peer| peer.pings.is_empty() && peer.distance.of_any() < ms(200)));
     }
 
     #[test]
-    fn the_shortest_of_the_last_ones() {
-        let now = Instant::now();
-        let mut it = Distances::new(3, 0, now);
-        let mut answer = |took| {
-            it.note(1, took, now);
-            it.shortest(1)
+    fn a_queue_is_no_distance() {
+        let start = Instant::now();
+        let mut it = Distances::new(3, 0, start);
+        let mut noted = |took: u64, at: u64| {
+            it.note(1, ms(took), start + ms(at));
+            (it.quorum().map(|it| it.as_millis()), it.waits().map(|(least, now)| [least, now].map(|it| it.as_millis())))
         };
         // (few may all have met other work)
-        assert_eq!(answer(ms(5)), None);
-        for number in 2..=32 {
-            assert_eq!(answer(ms(70)), Some(ms(5)).filter(|_| number >= 8));
+        (0..7).for_each(|at| assert_eq!(noted(5, at), (None, None)));
+        assert_eq!(noted(5, 7), (Some(5), Some([5, 5])));
+        // All that comes for almost a minute has waited in one, however much that is.
+        for at in 8..60_000 {
+            let (far, waits) = noted(11 + at % 98, at);
+            assert_eq!((far, waits.map(|[least, _]| least)), (Some(5), Some(5)));
         }
-        assert_eq!(answer(ms(80)), Some(ms(70)));
-        assert_eq!([1, 2, 9].map(|replica| it.shortest(replica)), [Some(ms(70)), None, None]);
+        assert_eq!([1, 2, 9].map(|replica| it.shortest(replica)), [Some(ms(5)), None, None]);
+        // Pings, which wait for no sync, show how far it is, and not how long proposals take at least.
+        let now = start + ms(59_999);
+        it.reach(1, true, start);
+        it.look(now, now);
+        let number = it.ping(1, now).unwrap();
+        it.answer(1, number, now + ms(2));
+        assert_eq!((it.quorum(), it.waits().unwrap().0), (Some(ms(2)), ms(5)));
     }
 }

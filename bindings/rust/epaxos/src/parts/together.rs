@@ -65,15 +65,23 @@ impl<M: Asked> Together<M> {
 
     /// Takes a command that goes with those that are there. Else it is given back.
     fn take(&mut self, member: M) -> Option<M> {
-        let Some((key, value)) = written(member.command()).filter(|_| self.most > 1) else { return Some(member) };
-        let bytes = key.len() + value.map_or(0, <[u8]>::len);
-        let has_room = self.members.len() < self.most && self.bytes + bytes <= MOST_BYTES;
-        if !has_room || !self.keys.insert(key.to_vec()) {
-            return Some(member);
-        }
-        self.bytes += bytes;
+        let Some((key, value)) = self.fitting(member.command()) else { return Some(member) };
+        self.bytes += key.len() + value.map_or(0, <[u8]>::len);
+        self.keys.insert(key.to_vec());
         self.members.push(member);
         None
+    }
+
+    /// What a command writes to which key, where it goes with those that are there.
+    fn fitting<'a>(&self, command: &'a OwnedCommand) -> Option<(&'a [u8], Option<&'a [u8]>)> {
+        let (key, value) = written(command).filter(|_| self.most > 1 && self.members.len() < self.most)?;
+        let bytes = self.bytes + key.len() + value.map_or(0, <[u8]>::len);
+        (bytes <= MOST_BYTES && !self.keys.contains(key)).then_some((key, value))
+    }
+
+    /// Whether a command is proposed behind all that is there, and not with it.
+    pub fn is_before(&self, command: &OwnedCommand) -> bool {
+        !self.members.is_empty() && self.fitting(command).is_none()
     }
 
     /// All that is there, as one command; then there is nothing. None where there was nothing.

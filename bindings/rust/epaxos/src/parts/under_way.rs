@@ -3,9 +3,8 @@ use crate::parts::together::Whole;
 use crate::{Instance, OwnedCommand};
 use std::collections::BTreeMap;
 
-/// At most so many are under way: what is cut off uses up no more numbers.
-const MOST: usize = 1_000;
-/// And so many bytes of keys and values: a quarter of what may wait for one peer. One command of any size may be.
+/// So many bytes of keys and values are under way at most: a quarter of what may wait for one peer. One command of any
+/// size may be.
 const MOST_BYTES: usize = 2 << 20;
 
 /// A command that is under way.
@@ -52,9 +51,9 @@ impl<M> Default for UnderWay<M> {
 }
 
 impl<M> UnderWay<M> {
-    /// Whether there is room for another one, behind some that are about to be proposed: how many, of how many bytes.
-    pub fn has_room(&self, count: usize, bytes: usize) -> bool {
-        self.all.len() + count < MOST && self.bytes + bytes < MOST_BYTES
+    /// Whether there is room for another one, behind some of so many bytes that are about to be proposed.
+    pub fn has_room(&self, bytes: usize) -> bool {
+        self.bytes + bytes < MOST_BYTES
     }
 
     pub fn insert(&mut self, call: (u32, u32), waiting: Waiting<M>) {
@@ -100,16 +99,16 @@ mod tests {
     }
 
     #[test]
-    fn commands_and_bytes_are_bounded() {
+    fn bytes_are_bounded() {
         let mut it = UnderWay::default();
-        assert!(it.has_room(0, (2 << 20) - 1) && !it.has_room(1_000, 0) && !it.has_room(0, 2 << 20));
+        assert!(it.has_room((2 << 20) - 1) && !it.has_room(2 << 20));
         (0..34).for_each(|number| it.insert((1, number), of(60_000)));
-        assert!(it.has_room(0, 0) && !it.has_room(0, 60_000));
+        assert!(it.has_room(0) && !it.has_room(60_000));
         it.insert((1, 34), of(60_000));
-        assert!(!it.has_room(0, 0));
+        assert!(!it.has_room(0));
         // (a request that is there already is no further one)
         it.insert((1, 34), of(1));
-        assert!(it.has_room(0, 0) && it.count() == 35);
+        assert!(it.has_room(0) && it.count() == 35);
         assert!(it.remove((1, 0)).is_some() && it.remove((1, 0)).is_none());
         assert_eq!((it.take().count(), it.is_empty(), it.bytes), (34, true, 0));
     }
