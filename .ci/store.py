@@ -1,6 +1,6 @@
 """The host in hosts/store, where cargo and the library are there: builds it, and runs its tests, some of them over the programs
-that `rt ci` built, then the client for Go, clients that others have written and strangers at its ports, and then plays a trial of 30 seconds over several generations, with 3 kills and a machine replaced, whose chain the audit judges; and four of some
-seconds: of a bank, of a map that grows, over distance and on a fifth of a processor. Runs alone too: python3 .ci/store.py [NODE PROGRAM [FOLDER]], of other builds, with the folder that libepaxos.a and
+that `rt ci` built, then the client for Go, clients that others have written and strangers at its ports, and then plays a trial of 30 seconds over several generations, with 3 kills and a machine replaced, whose chain the audit judges; and five of some
+seconds: of a bank, of a map that grows, of floods, over distance and on a fifth of a processor. Runs alone too: python3 .ci/store.py [NODE PROGRAM [FOLDER]], of other builds, with the folder that libepaxos.a and
 libepaxos.so are in.
 
 It is built without optimisation and without what debuggers need, which takes less than a release build; and a slow store shows sooner what does work twice.
@@ -39,6 +39,8 @@ DISTANCE += ("--trouble", "kill", "--at", "VA")
 STARVED = ("--seed", "1", "--starved")
 # a map that grows over a change of generation, all of which a machine 20 ms away then gets
 GROWING = ("--seed", "1", "--growing", "6000", "--replaced", "1", "--delay", "20")
+# ever more clients, of whom each level has to be as fast as the others, but for what other work on the machine takes
+FLOOD = ("--seed", "1", "--flood", "15000", "--least", "25")
 CHEAP = {"CARGO_INCREMENTAL": "0", "CARGO_PROFILE_DEV_DEBUG": "0"}
 # as ./epaxos goes about it
 EPAXOS = """#!/bin/sh
@@ -132,6 +134,9 @@ def tried(node=BUILT[0], program=BUILT[1], library=None):
             # (it judges how long logs get, which a machine may spoil that stands still for a tenth of a second)
             starved = [*trial, *STARVED, "--dir"]
             well.append(is_well([*starved, f"{scratch}/starved"]) or is_well([*starved, f"{scratch}/starved-again"]))
+            # (it judges rates, which a machine may spoil that has other work at one of them)
+            flood = [*trial, *FLOOD, "--dir"]
+            well.append(is_well([*flood, f"{scratch}/flood"]) or is_well([*flood, f"{scratch}/flood-again"]))
     return well.count(True), well.count(False)
 
 

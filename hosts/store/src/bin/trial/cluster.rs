@@ -171,7 +171,7 @@ impl Cluster {
             // (a change of generation takes such a store long, and isn't what is tried)
             command.args(["--seal-log", "1000000000"]);
         }
-        if self.options.growing == 0 || self.options.audit {
+        if self.options.growing + self.options.flood == 0 || self.options.audit {
             // All that there ever was is audited.
             command.args(["--keep", "1000000"]);
         }

@@ -20,8 +20,8 @@ const ROUND_TRIPS: [[u64; 5]; 5] = [
     [59, 93, 145, 0, 121],
     [113, 162, 220, 121, 0],
 ];
-/// Clients of each site.
-const CLIENTS: usize = 4;
+/// Clients of each site, where nothing is said.
+pub const CLIENTS: usize = 4;
 /// What comes before isn't counted: the first round trips are being measured.
 const WARM: Duration = Duration::from_secs(3);
 /// How long there is trouble, and how long after its beginning and its end nothing is judged.
@@ -213,7 +213,7 @@ fn added(cluster: &Cluster, sites: &Sites) -> Result<Duration, String> {
 fn measure(options: &Options, cluster: &Cluster, share: u64, found: &mut Found) -> Result<(), String> {
     let sites = &options.sites;
     let before = begun(cluster)?;
-    let all = play(cluster, sites, (share, options.reads), options.time, || Ok(()))?;
+    let all = play(options, cluster, (share, options.reads), options.time, || Ok(()))?;
     let after = begun(cluster)?;
     println!(
         "| {sites}, {share} % on one key | expected | others p50 / p90 / p99 ms (commands) | the one key | \
@@ -266,7 +266,7 @@ fn trouble_at(options: &Options, cluster: &Cluster, trouble: Trouble, found: &mu
     let (sites, at) = (&options.sites, options.troubled);
     let (begin, end) = (WARM + SETTLING, WARM + SETTLING + TROUBLE);
     let time = end + 2 * SETTLING;
-    let all = play(cluster, sites, (0, 0), time, || {
+    let all = play(options, cluster, (0, 0), time, || {
         thread::sleep(begin);
         match trouble {
             Trouble::Killed => cluster.kill(at)?,
@@ -346,19 +346,19 @@ impl Found {
 
 /// Clients at all sites for so long, while something happens.
 fn play(
+    options: &Options,
     cluster: &Cluster,
-    sites: &Sites,
     shares: (u64, u64),
     time: Duration,
     happens: impl FnOnce() -> Result<(), String>,
 ) -> Result<All, String> {
-    let (start, is_over) = (Instant::now(), AtomicBool::new(false));
+    let (start, is_over, sites) = (Instant::now(), AtomicBool::new(false), &options.sites);
     thread::scope(|scope| {
         let client = |place: usize| {
             let (replica, is_over) = (place % sites.count(), &is_over);
             scope.spawn(move || ask(cluster.client_ports[replica], place as u64, shares, start, is_over))
         };
-        let clients: Vec<_> = (0..CLIENTS * sites.count()).map(client).collect();
+        let clients: Vec<_> = (0..options.clients * sites.count()).map(client).collect();
         let happened = happens();
         thread::sleep(time.saturating_sub(start.elapsed()));
         is_over.store(true, Ordering::Relaxed);

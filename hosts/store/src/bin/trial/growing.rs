@@ -198,7 +198,8 @@ fn value(number: usize) -> Vec<u8> {
     format!("{number:0LENGTH$}").into_bytes()
 }
 
-fn processor_times(cluster: &Cluster) -> Duration {
+/// The processor time that all stores took.
+pub fn processor_times(cluster: &Cluster) -> Duration {
     (0..cluster.replicas).filter_map(|replica| cluster.group(replica)).map(processor_time).sum()
 }
 

@@ -4,6 +4,7 @@ mod bank;
 mod chain;
 mod cluster;
 mod distance;
+mod flood;
 mod growing;
 mod links;
 mod options;
@@ -78,6 +79,9 @@ fn play(options: &Options, round: usize) -> Result<usize, String> {
     }
     if options.growing > 0 {
         return judged(options, &cluster, growing::run(&cluster, options)?);
+    }
+    if options.flood > 0 {
+        return judged(options, &cluster, flood::run(&cluster, options)?);
     }
     let (Notes { all: notes, mut faults }, count) = work(options, round, &cluster);
     cluster.reach(options.least_changes);

@@ -1,12 +1,13 @@
 //! The command line of the trial.
-use crate::distance::{Sites, Trouble};
+use crate::distance::{self, Sites, Trouble};
 use std::path::PathBuf;
 use std::time::Duration;
 
 pub const HELP: &str = "\
 trial: a cluster of stores on this machine, clients, kills and cuts; then what the clients were told is checked
 
-    trial --node PATH [--short | --long | --bank | --smoke | --starved | --growing N] [--replicas N] [--seconds S] [--kills K] [--rounds R] [--audit]
+    trial --node PATH [--short | --long | --bank | --smoke | --starved | --growing N | --flood N]
+          [--replicas N] [--seconds S] [--kills K] [--rounds R] [--clients C] [--audit]
           [--sites A,B,.. [--shares P,..] [--reads P] [--trouble kill|pause|far,..] [--at A] [--most P] [--times N]]
           [--plant early|emptied|unsynced|unsealed|older|lacking|again|changed|fewer|before|after|partly|foreign]
           [--store PATH] [--dir DIR] [--seed S]
@@ -20,8 +21,9 @@ trial: a cluster of stores on this machine, clients, kills and cuts; then what t
     --bank           money goes between accounts, by transactions of all kinds, with kills and cuts as in a round; at each read of all accounts
                      their sum has to be what it was, and each client's transfers that were told have to be done once
     --smoke          no kills: `redis-cli` and `redis-benchmark`, where they are, are told what they should be
-    --sites A,B,..   a replica in each of these regions (CA, VA, EU, OR, JP), over links as long as between them, and clients who wait at each; judged
-                     is how long they wait, against what the round trips to the fast quorums allow, and that each command takes the fast path
+    --sites A,B,..   a replica in each of these regions (CA, VA, EU, OR, JP), over links as long as between them, and clients (4,
+                     unless --clients says otherwise) who wait at each; judged is how long they wait, against what the round
+                     trips to the fast quorums allow, and that each command takes the fast path
     --shares P,..    with --sites: one play each with so many of 100 commands on one key; default 0
     --reads P        with --sites: so many of 100 commands only read
     --trouble T,..   with --sites: a replica is killed, or stopped for 10 s, or 200 ms farther from all for 10 s
@@ -33,6 +35,10 @@ trial: a cluster of stores on this machine, clients, kills and cuts; then what t
                      changes, and otherwise. None may be told that its command may still be done, and all keys have to be there. The stores end
                      generations as they do where nothing is said, unless --seal-numbers or --seal-dependencies says otherwise. With --replaced M
                      behind it, M machines are replaced in the end
+    --flood N        no kills: up to 2,000 clients send up to 500 commands at once, N in all at each of some levels.
+                     Told is how fast that goes, what processor time it takes, and how long a client waits that sends
+                     one at a time; judged is that no level is much slower than the best one
+    --least P        with --flood: a level has to reach P parts of 100 of the best one's rate; default 80
     --delay MS       with --growing: those machines are so far from the others
     --replicas N     3, the default, or 5 or 7
     --seconds S, --kills K, --replaced M, --rounds R, --clients C, --commands N    other numbers
@@ -109,6 +115,9 @@ pub struct Options {
     pub starved: bool,
     /// So many keys are set by clients.
     pub growing: usize,
+    /// So many keys are set at each level of a flood, and which part of the best rate each has to reach.
+    pub flood: usize,
+    pub least_parts: u32,
     /// How far machines are that are replaced then.
     pub delay: Duration,
     /// Over distance: the regions, the shares of one key, what happens, and to which replica. None: on this machine.
@@ -168,6 +177,11 @@ pub fn read(words: impl IntoIterator<Item = String>) -> Result<Option<Options>, 
                 (options.growing, options.clients, options.least_changes) = (number(&value()?)?, 32, 0);
                 (options.numbers, options.dependencies, options.replaced) = (0, 0, 0);
             }
+            "--flood" => {
+                (options.flood, options.least_changes) = (number(&value()?)?, 0);
+                (options.numbers, options.dependencies, options.replaced) = (0, 0, 0);
+            }
+            "--least" => options.least_parts = number(&value()?)? as u32,
             "--delay" => options.delay = Duration::from_millis(number(&value()?)? as u64),
             "--audit" => options.audit = true,
             "--sites" => options.sites = Sites::read(&value()?)?,
@@ -187,6 +201,7 @@ pub fn read(words: impl IntoIterator<Item = String>) -> Result<Option<Options>, 
         (options.numbers, options.dependencies) = (8_900, 62_999);
         options.troubled = at.map_or(Ok(1), |name| options.sites.replica(&name))?;
         options.sites.times = times;
+        options.clients = if options.clients > 0 { options.clients } else { distance::CLIENTS };
     }
     if options.clients == 0 {
         options.clients = 2 * options.replicas;
@@ -232,6 +247,8 @@ fn defaults() -> Result<Options, String> {
         smoke: false,
         starved: false,
         growing: 0,
+        flood: 0,
+        least_parts: 80,
         delay: Duration::ZERO,
         sites: Sites::default(),
         shares: vec![0],
