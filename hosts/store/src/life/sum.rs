@@ -1,11 +1,79 @@
-//! The SHA-256 of bytes, by a crate that uses what the processor has for it: each byte of a log goes through it.
+//! The SHA-256 of logs, by a crate that uses what the processor has for it, and beside the thread that serves: each
+//! byte of a log goes through it, and only the change to the next generation asks for the sum.
 use epaxos::host::{Summing, Sums};
 use sha2::{Digest, Sha256};
+use std::sync::mpsc::{Receiver, SyncSender, sync_channel};
+use std::thread;
 
 /// For a host.
-pub const SUMS: Sums = Sums { of: sum_of, begin: || Box::new(Running::default()) };
+pub const SUMS: Sums = Sums { of: sum_of, begin };
 
-/// The SHA-256 of bytes that come one after the other.
+/// So many bytes are handed to the thread at once: each time it is woken it may take the processor from who serves.
+const PIECE: usize = 128 << 10;
+/// At most so many pieces wait for it, so that a sum that is asked for is soon there.
+const MOST_PIECES: usize = 16;
+
+/// What the thread is handed.
+enum Handed {
+    Piece(Vec<u8>),
+    /// The sum of all that came before, with these bytes behind it, is to be sent there. More may come.
+    Asked(Vec<u8>, SyncSender<[u8; 32]>),
+}
+
+/// The SHA-256 of bytes that come one after the other, by a thread of its own.
+struct Beside {
+    /// What it wasn't handed yet.
+    rest: Vec<u8>,
+    thread: SyncSender<Handed>,
+}
+
+/// That of no bytes yet. Where there can be no thread whoever adds bytes sums them.
+fn begin() -> Box<dyn Summing> {
+    let (thread, handed) = sync_channel(MOST_PIECES);
+    match thread::Builder::new().name("sum".into()).spawn(move || sum_all(&handed)) {
+        Ok(_) => Box::new(Beside { rest: Vec::new(), thread }),
+        Err(_) => Box::new(Running::default()),
+    }
+}
+
+/// Sums what it is handed, until nobody hands it anything any more.
+fn sum_all(handed: &Receiver<Handed>) {
+    let mut sum = Running::default();
+    for it in handed {
+        match it {
+            Handed::Piece(bytes) => sum.add(&bytes),
+            Handed::Asked(rest, reply) => {
+                let mut whole = Running(sum.0.clone());
+                whole.add(&rest);
+                let _ = reply.send(whole.digest());
+            }
+        }
+    }
+}
+
+impl Beside {
+    fn hand(&self, it: Handed) {
+        self.thread.send(it).expect("the thread sums for as long as it is handed anything");
+    }
+}
+
+impl Summing for Beside {
+    fn add(&mut self, bytes: &[u8]) {
+        self.rest.extend(bytes);
+        if self.rest.len() >= PIECE {
+            let piece = std::mem::replace(&mut self.rest, Vec::with_capacity(PIECE));
+            self.hand(Handed::Piece(piece));
+        }
+    }
+
+    fn digest(&self) -> [u8; 32] {
+        let (reply, sum) = sync_channel(1);
+        self.hand(Handed::Asked(self.rest.clone(), reply));
+        sum.recv().expect("the thread answers what it is handed")
+    }
+}
+
+/// The same at once, by whoever asks.
 #[derive(Default)]
 struct Running(Sha256);
 
@@ -31,12 +99,26 @@ mod tests {
 
     #[test]
     fn it_is_the_crates() {
-        let mut running = (SUMS.begin)();
         let mut all = Vec::new();
-        for part in [&b""[..], b"a", &[7; 200], b"bc"] {
-            running.add(part);
+        let mut sums: [Box<dyn Summing>; 2] = [begin(), Box::new(Running::default())];
+        for part in [&b""[..], b"a", &[7; 200], b"bc", &[8; PIECE], b"", &[9; 3 * PIECE + 1], b"d"] {
             all.extend(part);
-            assert_eq!((running.digest(), sum_of(&all)), (Sum::of(&all), Sum::of(&all)));
+            for sum in &mut sums {
+                sum.add(part);
+                assert_eq!((sum.digest(), sum_of(&all)), (Sum::of(&all), Sum::of(&all)));
+            }
         }
+    }
+
+    /// More than waits for the thread at once, whose sum is asked for at once.
+    #[test]
+    fn what_was_handed_before_counts() {
+        let (mut sum, mut all) = (begin(), Vec::new());
+        for byte in 0..4 * MOST_PIECES {
+            let piece = vec![byte as u8; PIECE + byte];
+            sum.add(&piece);
+            all.extend(piece);
+        }
+        assert_eq!(sum.digest(), sum_of(&all));
     }
 }
