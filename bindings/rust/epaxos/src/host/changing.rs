@@ -131,7 +131,7 @@ impl Host {
         self.progress.generation.is_asked |= !self.wishes.is_empty();
         self.greet_all();
         self.note_left();
-        if self.files.is_due(self.settings.checkpoint) {
+        if self.files.is_due(self.settings.checkpoint, self.progress.place) {
             self.write_opening();
         }
         Ok(())

@@ -1,4 +1,5 @@
 //! What of the generations is on the disk.
+use crate::parts::place::Place;
 use crate::parts::way::Way;
 use crate::{Checkpoint, Reference};
 use std::collections::BTreeMap;
@@ -41,9 +42,12 @@ impl Files {
     }
 
     /// Whether an opening is to be written: where the logs since the last one have so many bytes, and as many as that
-    /// one.
-    pub(super) fn is_due(&self, least: u64) -> bool {
-        self.unwritten.is_some() && self.logs() >= self.whole.1.max(least)
+    /// one. Replicas take turns, a generation each, so that a majority is always free.
+    pub(super) fn is_due(&self, least: u64, Place { replicas, replica }: Place) -> bool {
+        let is_own = |(reference, _): &(Reference, Checkpoint)| {
+            reference.generation() as usize % replicas == usize::from(replica)
+        };
+        self.unwritten.as_ref().is_some_and(is_own) && self.logs() >= self.whole.1.max(least)
     }
 
     /// How many bytes of logs lead to the present generation.

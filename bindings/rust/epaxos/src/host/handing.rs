@@ -87,7 +87,7 @@ impl Host {
         self.due = self.due.min(now);
         // (before that generation is on the disk nothing of it is written)
         let has_begun = generation == self.progress.generation.number;
-        if has_begun && (self.files.is_due(self.settings.checkpoint) || !self.wanting.is_empty()) {
+        if has_begun && (self.files.is_due(self.settings.checkpoint, self.progress.place) || !self.wanting.is_empty()) {
             self.write_opening();
         }
     }

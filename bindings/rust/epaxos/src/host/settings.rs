@@ -33,7 +33,7 @@ pub struct Settings {
     /// or its log so many bytes.
     pub log: u64,
     /// The file that a generation opens with is written once the logs since the last one have so many bytes, and as
-    /// many as that one.
+    /// many as that one, by one replica after the other.
     pub checkpoint: u64,
     /// A call that can't be proposed is held for so long, and then refused.
     pub patience: Duration,
