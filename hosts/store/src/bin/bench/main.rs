@@ -69,7 +69,7 @@ fn run(options: &Options) -> Result<(), String> {
         "{} commands of each kind, in {} turns, values of {} bytes, in {}; medians over turns (the least to the most)",
         options.commands,
         options.turns,
-        measure::VALUE,
+        options.value,
         options.directory.display()
     );
     println!(
@@ -98,7 +98,7 @@ fn play(options: &Options, clients: usize) -> Result<(), String> {
                 let (before, written) = (processor_times(cluster), bytes_written(cluster));
                 let (threads, counted) = (thread_times(cluster), counts(cluster)?);
                 let load = measure::load()?;
-                measured[place].add(measure::measure(cluster, work, clients, numbers.clone())?, load);
+                measured[place].add(measure::measure(cluster, work, (clients, options.value), numbers.clone())?, load);
                 measured[place].threads += thread_times(cluster) - threads;
                 measured[place].processor += processor_times(cluster) - before;
                 measured[place].written += bytes_written(cluster) - written;

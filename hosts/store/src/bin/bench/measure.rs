@@ -7,8 +7,6 @@ use std::sync::atomic::{AtomicBool, Ordering};
 use std::thread;
 use std::time::{Duration, Instant};
 
-/// How long a value is, in bytes.
-pub const VALUE: usize = 100;
 /// A command has at most so many keys.
 const MOST_KEYS: usize = 1_000;
 
@@ -147,16 +145,22 @@ pub fn load() -> Result<f64, String> {
     text.split(' ').next().and_then(|it| it.parse().ok()).ok_or("/proc/loadavg has no number".into())
 }
 
-/// Has a cluster do the commands of these numbers, by so many clients.
-pub fn measure(cluster: &dyn Cluster, work: Work, clients: usize, numbers: Range<usize>) -> Result<Measured, String> {
-    let (barrier, is_over) = (Barrier::new(clients), AtomicBool::new(false));
+/// Has a cluster do the commands of these numbers, by so many clients, with values of so many bytes.
+pub fn measure(
+    cluster: &dyn Cluster,
+    work: Work,
+    (clients, length): (usize, usize),
+    numbers: Range<usize>,
+) -> Result<Measured, String> {
+    let (barrier, is_over, value) = (Barrier::new(clients), AtomicBool::new(false), vec![b'v'; length]);
     let done: Vec<(Instant, Instant, Vec<Duration>)> = thread::scope(|scope| {
-        let setting = (work == Work::GetOne).then(|| scope.spawn(|| set_one(cluster, &is_over)));
+        let setting = (work == Work::GetOne).then(|| scope.spawn(|| set_one(cluster, &value, &is_over)));
         let clients: Vec<thread::ScopedJoinHandle<_>> = (0..clients)
             .map(|client| {
-                let (barrier, numbers) = (&barrier, numbers.clone().skip(client).step_by(clients));
+                let (barrier, value) = (&barrier, &value[..]);
+                let numbers = numbers.clone().skip(client).step_by(clients);
                 let named = thread::Builder::new().name("client".into());
-                named.spawn_scoped(scope, move || ask(cluster, work, (client, numbers), barrier))
+                named.spawn_scoped(scope, move || ask(cluster, (work, value), (client, numbers), barrier))
             })
             .collect::<Result<_, _>>()
             .map_err(|error| format!("no thread for a client: {error}"))?;
@@ -174,10 +178,10 @@ pub fn measure(cluster: &dyn Cluster, work: Work, clients: usize, numbers: Range
 }
 
 /// Sets the one key until it is over.
-fn set_one(cluster: &dyn Cluster, is_over: &AtomicBool) -> Result<(), String> {
+fn set_one(cluster: &dyn Cluster, value: &[u8], is_over: &AtomicBool) -> Result<(), String> {
     let mut connection = cluster.connect(0)?;
     while !is_over.load(Ordering::Relaxed) {
-        connection.set(b"one", &[b'v'; VALUE])?;
+        connection.set(b"one", value)?;
     }
     Ok(())
 }
@@ -185,7 +189,7 @@ fn set_one(cluster: &dyn Cluster, is_over: &AtomicBool) -> Result<(), String> {
 /// One client's commands: when it began, when it ended, and each one's wait.
 fn ask(
     cluster: &dyn Cluster,
-    work: Work,
+    (work, value): (Work, &[u8]),
     (client, numbers): (usize, impl Iterator<Item = usize>),
     barrier: &Barrier,
 ) -> Result<(Instant, Instant, Vec<Duration>), String> {
@@ -193,13 +197,12 @@ fn ask(
     // (whoever has no connection mustn't keep the others waiting)
     barrier.wait();
     let mut connection = connected?;
-    let value = [b'v'; VALUE];
     let mut waits = Vec::new();
     let begin = Instant::now();
     for number in numbers {
         let keys = keys(work, number);
         let start = Instant::now();
-        ask_one(connection.as_mut(), work, number, &keys, &value)?;
+        ask_one(connection.as_mut(), work, number, &keys, value)?;
         waits.push(start.elapsed());
     }
     Ok((begin, Instant::now(), waits))

@@ -6,7 +6,7 @@ pub const HELP: &str = "\
 bench: three stores, three members of etcd and one Redis, on this machine, asked in turns by the same number of clients
 
     bench [--store PATH] [--etcd PATH] [--redis PATH] [--clusters A,B,..] [--clients A,B,..]
-          [--works A,B,..] [--commands N] [--turns T] [--dir DIR]
+          [--works A,B,..] [--commands N] [--turns T] [--value BYTES] [--dir DIR]
 
     --store PATH     the program `store`; default: beside this one
     --etcd PATH      the program `etcd`; default: the one on the PATH
@@ -21,6 +21,7 @@ bench: three stores, three members of etcd and one Redis, on this machine, asked
                      that are sent at once. N: 1 to 1000
     --commands N     of each kind, by each cluster; default 100000
     --turns T        in so many turns, between which the others have theirs; default 10
+    --value BYTES    how long values are; default 100
     --dir DIR        a folder for logs, on the disk that is measured; default: one under the system's for temporary files
 
 All write what they answer to the disk first. Rates, their ratios to those of the first cluster in the same turns, and
@@ -37,6 +38,8 @@ pub struct Options {
     pub works: Vec<Work>,
     pub commands: usize,
     pub turns: usize,
+    /// How many bytes a value has.
+    pub value: usize,
     pub directory: PathBuf,
 }
 
@@ -52,6 +55,7 @@ pub fn read(words: impl IntoIterator<Item = String>) -> Result<Option<Options>, 
         works: Work::ALL.to_vec(),
         commands: 100_000,
         turns: 10,
+        value: 100,
         directory: std::env::temp_dir().join(format!("bench-{}", std::process::id())),
     };
     let mut words = words.into_iter();
@@ -67,6 +71,7 @@ pub fn read(words: impl IntoIterator<Item = String>) -> Result<Option<Options>, 
             "--works" => options.works = value()?.split(',').map(Work::read).collect::<Result<_, _>>()?,
             "--commands" => options.commands = number(&value()?)?,
             "--turns" => options.turns = number(&value()?)?,
+            "--value" => options.value = number(&value()?)?,
             "--dir" => options.directory = PathBuf::from(value()?),
             _ => return Err(format!("unknown word {word}; --help tells the words")),
         }
