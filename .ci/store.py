@@ -131,12 +131,12 @@ def tried(node=BUILT[0], program=BUILT[1], library=None):
             distance = [*trial, *DISTANCE, "--dir"]
             times = enumerate(("1", "4", "4"))
             well.append(any(is_well([*distance, f"{scratch}/{turn}", "--times", it]) for turn, it in times))
-            # (it judges how long logs get, which a machine may spoil that stands still for a tenth of a second)
-            starved = [*trial, *STARVED, "--dir"]
-            well.append(is_well([*starved, f"{scratch}/starved"]) or is_well([*starved, f"{scratch}/starved-again"]))
             # (it judges rates, which a machine may spoil that has other work at one of them)
             flood = [*trial, *FLOOD, "--dir"]
             well.append(is_well([*flood, f"{scratch}/flood"]) or is_well([*flood, f"{scratch}/flood-again"]))
+            # (it judges how long logs get, which a machine may spoil that stands still for a tenth of a second)
+            starved = [*trial, *STARVED, "--dir"]
+            well.append(is_well([*starved, f"{scratch}/starved"]) or is_well([*starved, f"{scratch}/starved-again"]))
     return well.count(True), well.count(False)
 
 

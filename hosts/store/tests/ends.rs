@@ -85,6 +85,15 @@ fn a_log_that_is_refused_is_reported() {
     );
 }
 
+/// Where jemalloc was there as the store was built: it says so of itself, as it does where it was asked to.
+#[test]
+fn memory_is_of_jemalloc() {
+    let mut command = Command::new(env!("CARGO_BIN_EXE_store"));
+    let Output { stderr, .. } = command.arg("--version").env("MALLOC_CONF", "stats_print:true").output().unwrap();
+    let told = String::from_utf8_lossy(&stderr);
+    assert_eq!(told.contains("jemalloc statistics"), option_env!("JEMALLOC").is_some(), "{told}");
+}
+
 #[test]
 fn it_prints_its_version() {
     let Output { status, stdout, .. } = Command::new(env!("CARGO_BIN_EXE_store")).arg("--version").output().unwrap();
