@@ -184,7 +184,7 @@ impl Metrics {
             ),
             (
                 "epaxos_store_quorum_round_trip_microseconds",
-                "The round trip to the farthest member of the fast quorum: the shortest of the last 32.",
+                "The round trip to the farthest member of the fast quorum: the least of the last minute.",
                 "gauge",
                 &self.quorum_round_trip,
             ),

@@ -38,7 +38,7 @@ pub struct Status {
     pub waiting: usize,
     /// How many instances are known not to be committed.
     pub open: usize,
-    /// The round trip to the farthest member of the fast quorum, the shortest of the last ones, where it is known,
+    /// The round trip to the farthest member of the fast quorum, the least of the last minute, where it is known,
     pub quorum: Option<Duration>,
     /// and to each peer.
     pub far: Vec<(u8, Option<Duration>)>,

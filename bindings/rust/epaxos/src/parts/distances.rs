@@ -1,5 +1,5 @@
 //! How far the peers are, by pings, and which of them proposals spare: the farthest one, or one that isn't reached; and
-//! which have fallen silent.
+//! which have fallen silent. What of this is wrong costs time alone: any quorum that is named is a right one.
 use crate::parts::least::Least;
 use std::collections::VecDeque;
 use std::time::{Duration, Instant};
