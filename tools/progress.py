@@ -13,7 +13,7 @@ class Progress:
 
     def __init__(self, what, silence=SILENCE):
         self.begun, self.is_rewritten, self.what = time.monotonic(), sys.stderr.isatty(), what
-        self.count, self.done, self.at, self.writing = 0, 0, [], threading.Lock()
+        self.count, self.done, self.at, self.steps, self.writing = 0, 0, [], {}, threading.Lock()
         self.silence, self.written = silence, self.begun
 
     def minutes(self):
@@ -23,6 +23,12 @@ class Progress:
     def begin(self, name):
         with self.writing:
             self.at.append(name)
+            self.put("" if self.is_rewritten else "\n")
+
+    def step(self, name, what):
+        """Says what is done with it now."""
+        with self.writing:
+            self.steps[name] = what
             self.put("" if self.is_rewritten else "\n")
 
     def end(self, name, is_well):
@@ -36,7 +42,8 @@ class Progress:
             self.done += 1
 
     def put(self, end):
-        text = f"epaxos: {self.done} of {self.count} {self.what}, at {', '.join(self.at)} ({self.minutes()})"
+        at = ", ".join(f"{it} ({self.steps[it]})" if it in self.steps else it for it in self.at)
+        text = f"epaxos: {self.done} of {self.count} {self.what}, at {at} ({self.minutes()})"
         self.write("\r\033[K" * self.is_rewritten + text + end)
 
     def start(self):
