@@ -4,6 +4,7 @@
                       which looks whether pages and copies are up to date, fails, no other is run
   .ci/run --all       the same, and tries all wrong bodies, not only some that changed and ten more
   .ci/run --built     runs only the parts that go over the programs that an earlier `rt ci` built
+  .ci/run --brief     runs what `./epaxos test` does (.ci/brief.py), in minutes; `./epaxos test --all` is .ci/run
 
 As root on Debian it first installs what tools/needs.txt lists. At its end it says what processor time each part took, and what
 it skipped; its last line is 'N passed, M failed', with ', K skipped' where something was. The status is 0 where M is 0.
@@ -24,6 +25,7 @@ TOP = os.path.dirname(os.path.dirname(os.path.abspath(__file__)))
 sys.path[:0] = [f"{TOP}/.ci", f"{TOP}/tools"]
 
 import bindings
+import brief
 import clock
 import generations
 import growth
@@ -68,7 +70,7 @@ PUT = b"replicas 3\npropose 0 1 put x 1\n"
 LONG = b"replicas 3\n" + b"propose 0 1 put x 1\nflush\nflush\n" * 40
 # what looks whether something that is written is up to date
 LOOKS = (
-    ["tools/generate", "--check", "rows", "page", "header", "bindings", "refusals", "pictures"],
+    ["tools/generate", "--check", "rows", "page", "header", "bindings", "refusals", "pictures", "figures"],
     ["tools/tidy"],
     ["tools/wrong-bodies", "--look"],
 )
@@ -302,6 +304,15 @@ PARTS = (
     Part("simulated hosts", sim.tried),
     Part("release", release.of_gate),
 )
+BRIEF = (
+    Part("pages and copies", brief.looks),
+    Part("build", brief.build),
+    Part("rows", brief.worked_rows),
+    Part("tests/", brief.tests),
+    Part("bindings/rust", brief.crate),
+    Part("hosts/store", brief.hosts),
+    Part("simulated hosts", brief.simulator),
+)
 
 
 def processor_time():
@@ -313,16 +324,17 @@ def main(words):
     if words in (["--help"], ["-h"]):
         print(__doc__, end="")
         return 0
-    if words not in ([], ["--all"], ["--built"]):
+    if words not in ([], ["--all"], ["--built"], ["--brief"]):
         print(__doc__, end="", file=sys.stderr)
         return 2
     os.chdir(TOP)
     signal.signal(signal.SIGTERM, lambda *_: sys.exit(143))
     lanes.one_processor_a_check()
     told, passed, failed = [], 0, 0
-    needs.install(needs.lacking("gate"))
+    is_brief = words == ["--brief"]
+    needs.install(needs.lacking("test" if is_brief else "gate"))
     with clock.Clock() as spent, needs.noting() as skipped:
-        for part in PARTS:
+        for part in BRIEF if is_brief else PARTS:
             if words == ["--built"] and not part.is_of_built:
                 continue
             processor, began = processor_time(), time.monotonic()
