@@ -32,10 +32,17 @@ CUT = b"EPJB\2\3"
 # a bundle in which replica 1 handled a frame that nobody sent: .ci/rows/audit-unsent-frame
 UNSENT = f"{TOP}/.ci/rows/audit-unsent-frame/stdin.hex"
 COMMANDS = rows.commands()
+# and those of which tools have some
+with open(f"{TOP}/commands.txt", encoding="utf-8") as file:
+    LISTED = re.findall(r"(?m)^([a-z-]+) \S+: ", file.read())
+# what a terminal adds to the refusal of a script, and of a bundle
+FOUR_WHY = "  line 1, word 2: 4 is out of range: how many replicas there are, 3, 5 or 7\n"
+CUT_WHY = "  do: copy the bundle again from where it was made, or make it anew from the logs by `epaxos collect`\n"
 OLD = "epaxos {}: it is `epaxos {}` now, and these words go with the next version\n"
 
 # In the place of the build: leaves the program that is asked for, and notes the words.
 BUILDS_ONE = """#!/bin/bash
+[[ $* != *--behind* ]] || exit 0
 echo "$@" >> '{top}/it.built'
 mkdir -p '{top}/out/unproved' && cp '{top}/built/'"$2" '{top}/out/unproved' && touch '{top}/out/unproved/'"$2.stamp"
 """
@@ -113,6 +120,7 @@ class Room:
         if not child:
             os.chdir(self.top)
             os.environ.pop("EPAXOS_QUIET", None)
+            os.environ["NO_COLOR"] = "1"
             os.execv("/bin/bash", ["bash", "-c", command])
         if typed:
             os.write(terminal, typed)
@@ -151,7 +159,7 @@ class Room:
 
 def refused(reason, tip=""):
     """A refusal of the first word."""
-    more = f"\n  tip: {tip}" if tip else f"  [subcommands: {', '.join(COMMANDS)}, help]"
+    more = f"\n  tip: {tip}" if tip else f"  [subcommands: {', '.join(LISTED)}, help]"
     return 2, "", f"{REFUSED}{reason}\n{more}\n\nUsage: epaxos <COMMAND>{MORE}"
 
 
@@ -160,7 +168,7 @@ def fixed(room):
     room.place()
     for words in ("--help", "-h", "help", "help help"):
         status, wrote, told = room.run(words)
-        yield words, (status, re.findall(r"(?m)^  ([a-z][\w-]+)  ", wrote), told), (0, [*COMMANDS, "help"], "")
+        yield words, (status, re.findall(r"(?m)^  ([a-z][\w-]+)  ", wrote), told), (0, [*LISTED, "help"], "")
     for words, wanted in (
         ("", refused("'epaxos' requires a subcommand but one was not provided")),
         ("frob", refused("unrecognized subcommand 'frob'")),
@@ -169,9 +177,11 @@ def fixed(room):
         ("build --unproved", refused("unrecognized subcommand 'build'")),
         ("--build now", (2, "", "epaxos: --build takes at most --unproved and --jobs N, with N from 1 to 99\n")),
         ("--build --unproved now", (2, "", "epaxos: --build --unproved takes at most --library, --no-checks and --jobs N, with N from 1 to 99\n")),
-        ("put.script", refused("unrecognized subcommand 'put.script'", "epaxos reads standard input: epaxos replay < put.script")),
-        ("no.run", refused("unrecognized subcommand 'no.run'", "epaxos reads standard input: epaxos run < no.run")),
-        ("cut.bundle", refused("unrecognized subcommand 'cut.bundle'", "epaxos reads standard input: epaxos audit < cut.bundle")),
+        ("put.script", refused("unrecognized subcommand 'put.script'", "epaxos reads a file so: epaxos replay put.script")),
+        ("no.run", refused("unrecognized subcommand 'no.run'", "epaxos reads a file so: epaxos run no.run")),
+        ("cut.bundle", refused("unrecognized subcommand 'cut.bundle'", "epaxos reads a file so: epaxos audit cut.bundle")),
+        ("relpay", refused("unrecognized subcommand 'relpay'", "a similar subcommand exists: 'replay'")),
+        ("upp", refused("unrecognized subcommand 'upp'", "a similar subcommand exists: 'up'")),
     ):
         yield words, room.run(words), wanted
     yield "--help to a full device", room.run("--help", redirect="> /dev/full"), (4, "", "writing failed\n")
@@ -192,7 +202,7 @@ def fixed(room):
             status, wrote, told = room.run(words, SCRIPT)
             wanted = {"ep_main": (0, REPORT, UNPROVED), "ep_server": (4, "", f"{UNPROVED}reading one.log failed: no such file or directory\n"), "ep_viewer": (0, wrote, UNPROVED)}[built]
             yield f"{words}, not built, {turn} call", (status, wrote, told[-len(wanted[2]) :], ("is built now" in told) == (turn == "first")), (*wanted, True)
-    yield "each program is built once, alone", room.text("it.built"), "--program ep_main\n--program ep_server\n--program ep_viewer\n"
+    yield "each program is built once, alone", room.text("it.built"), "--program ep_main --quick\n--program ep_server --quick\n--program ep_viewer --quick\n"
     os.rename(f"{room.top}/tools/unproved.kept", f"{room.top}/tools/unproved")
     room.place()
     yield "--version, not built", room.run("--version")[1].splitlines()[0::2], ["epaxos 1.0.0", "nothing is built: ./epaxos --build --unproved, or --build"]
@@ -202,13 +212,23 @@ def chosen(room):
     """Which program is taken."""
     room.place("unproved")
     yield "unproved", room.run("replay", SCRIPT), (0, REPORT, UNPROVED)
+    yield "--quiet behind the command", room.run("replay --quiet", SCRIPT), (0, REPORT, "")
+    yield "a file behind the command", room.run("replay put.script --quiet"), (0, REPORT, "")
+    yield "a file behind an option", room.run("--quiet replay --emit report put.script"), (0, REPORT, "")
+    yield "a file behind an option that takes none", (room.run("--quiet show --columns unsent.bundle")[0], room.run("--quiet show --columns", redirect="< unsent.bundle")[0]), (0, 0)
+    room.write("report", SCRIPT)
+    yield "an option's value that is a file", room.run("--quiet replay --emit report", "replicas 4\n")[0], 2
+    yield "no file behind the command", room.run("--quiet replay no.script", SCRIPT)[0], 2
+    room.write("out/unproved/ep_main.quick", "")
+    yield "unoptimised", room.run("replay", SCRIPT), (0, REPORT, UNPROVED.replace("\n", " --quick\n"))
+    os.remove(f"{room.top}/out/unproved/ep_main.quick")
     yield "--quiet", room.run("--quiet replay", SCRIPT), (0, REPORT, "")
     yield "EPAXOS_QUIET=1", room.run("replay", SCRIPT, quiet="1"), (0, REPORT, "")
     yield "unproved, no words", room.run(""), refused("'epaxos' requires a subcommand but one was not provided")
     yield "unproved, --version", room.run("--version"), (0, "epaxos 1.0.0\nthe kit of the unproved\nnot proved: built with --unproved\n", "")
     yield "unproved, a trace", room.run("--quiet trace", FOUR), (2, "", "script refused at line 1\n")
-    yield "unproved, a file as a word", room.run("--quiet replay put.script"), (2, "", f"{REFUSED}unexpected argument 'put.script' found\n\nUsage: epaxos replay [OPTIONS]{MORE}")
-    yield "unproved, a file without --chain", room.run("--quiet audit cut.bundle"), (2, "", f"{REFUSED}a FILE stands with '--chain' alone{MORE}")
+    yield "unproved, a file as a word", room.run("--quiet replay put.script"), (0, REPORT, "")
+    yield "unproved, a bundle as a word", room.run("--quiet audit cut.bundle"), (2, "", "bundle refused E12 at byte 6\n")
     for words in ("frob", "", "cut.bundle"):
         yield f"unproved, {words or 'no words'}, from a folder", room.run(words, redirect="< .")[0], 2
     yield "unproved, a chain, from a folder", room.run("--quiet audit --chain cut.bundle", redirect="< ."), (2, "", "bundle refused E12 at byte 4 in cut.bundle\n")
@@ -269,30 +289,30 @@ def cheap(room):
     for kinds in (("unproved",), ("proved",)):
         room.place(*kinds)
         room.run("--quiet replay", SCRIPT)
-        _, wrote, told = room.run("--quiet replay", SCRIPT, redirect="", under="strace -f -qq -e signal=none -o it.calls")
+        _, _, told = room.run("--quiet replay", SCRIPT, redirect="> it.out", under="strace -f -qq -e signal=none -o it.calls")
         with open(f"{room.top}/it.calls", encoding="utf-8") as file:
             calls = file.read().splitlines()
         started, begun = sum("fork(" in it or "clone(" in it or "clone3(" in it for it in calls), next(at for at, it in enumerate(calls) if f"/ep_main\"" in it and "execve(" in it)
-        yield f"what a call costs, {kinds[0]}", (wrote, told, started, begun < 4000), (REPORT, "", 0, True)
+        yield f"what a call costs, {kinds[0]}", (room.text("it.out"), told, started, begun < 4000), (REPORT, "", 0, True)
 
 
 def shown(room):
     """What a terminal shows."""
     room.place("proved")
     for words, given, status, said in (
-        ("replay", "four.script", 2, "script refused at line 1\nsee: epaxos explain < four.script\n"),
-        ("audit", "cut.bundle", 2, "bundle refused E12 at byte 6\nsee: epaxos explain < cut.bundle\n"),
-        ("show", "cut.bundle", 2, "bundle refused E12 at byte 6\nsee: epaxos explain < cut.bundle\n"),
-        ("replay put.script", "put.script", 2, f"{REFUSED}unexpected argument 'put.script' found\n\nUsage: epaxos replay [OPTIONS]{MORE}epaxos reads standard input: epaxos replay < put.script\n"),
-        ("audit", "unsent.bundle", 1, "see: epaxos explain < unsent.bundle\n"),
+        ("replay", "four.script", 2, f"script refused at line 1\n{FOUR_WHY}see: epaxos explain four.script\n"),
+        ("audit", "cut.bundle", 2, f"bundle refused E12 at byte 6\n{CUT_WHY}see: epaxos explain cut.bundle\n"),
+        ("show", "cut.bundle", 2, f"bundle refused E12 at byte 6\n{CUT_WHY}see: epaxos explain cut.bundle\n"),
+        ("replay put.script", "/dev/null", 0, ""),
+        ("replay four.script", "put.script", 2, f"script refused at line 1\n{FOUR_WHY}see: epaxos explain four.script\n"),
         ("replay", "put.script", 0, ""),
     ):
         seen = room.seen_briefly(f"./epaxos {words} < {given} > it.out")
         yield f"{words} {given}, on a terminal", seen, (status, said)
         status_elsewhere, _, told = room.run(words, redirect=f"< {given}")
-        yield f"{words} {given}, not on a terminal", (status_elsewhere, told), (status, "".join(line for line in said.splitlines(True) if not line.startswith(("see: ", "epaxos reads "))))
+        yield f"{words} {given}, not on a terminal", (status_elsewhere, told), (status, "".join(line for line in said.splitlines(True) if not line.startswith(("see: ", "  "))))
     yield "a chain, on a terminal", room.seen_briefly("./epaxos audit --chain cut.bundle"), (2, "bundle refused E12 at byte 4 in cut.bundle\n")
-    yield "from a pipe, on a terminal", room.seen_briefly("cat four.script | ./epaxos replay"), (2, "script refused at line 1\nsee: epaxos explain < FILE\n")
+    yield "from a pipe, on a terminal", room.seen_briefly("cat four.script | ./epaxos replay"), (2, "script refused at line 1\nsee: epaxos explain FILE\n")
     yield "long work, on a terminal", room.seen_long(), (0, "epaxos replay: 2 s so far")
     yield "long work, --quiet", room.seen("(cat put.script; sleep 3.6) | ./epaxos --quiet replay > it.out"), (0, "")
     status, seen = room.seen("./epaxos replay > it.out", (SCRIPT + "\4").encode())
@@ -306,7 +326,7 @@ def shown(room):
         yield f"{words}, its pipe closed, on a terminal", room.seen_briefly(closed.format(words, given)), (0, "4\n")
         how = {"cwd": room.top, "pass_fds": [writing], "stdout": subprocess.PIPE, "stderr": subprocess.PIPE}
         told = subprocess.run(["bash", "-c", closed.format(words, given)], **how)
-        yield f"{words}, its pipe closed", (told.stdout, told.stderr), (b"4\n", b"writing failed\n")
+        yield f"{words}, its pipe closed", (told.stdout, told.stderr), (b"4\n", b"")
     os.close(writing)
     yield "replay to a full device, on a terminal", room.seen_briefly("./epaxos replay < put.script > /dev/full"), (4, "writing failed\n")
 
@@ -332,6 +352,26 @@ print(1 + int((time.monotonic() - begun) / 0.1))
 """
 
 
+def coloured(room):
+    """What a terminal shows in colour, and a hint."""
+    red = "\033[31mscript refused at line 1\033[0m\n"
+    yield "colours", room.seen("env -u NO_COLOR TERM=xterm ./epaxos --quiet replay four.script")[1].startswith(red), True
+    for words in ("NO_COLOR=1 TERM=xterm", "-u NO_COLOR TERM=dumb"):
+        yield f"no colours, {words}", "\033" in room.seen(f"env {words} ./epaxos --quiet replay four.script")[1], False
+    room.write("quotes.script", SCRIPT.replace("put x 1", 'put x "1"'))
+    yield "quotes", room.seen_briefly("./epaxos replay quotes.script > it.out"), (0, "hint: quotes in a script are bytes of the value\n")
+    room.write("quotes.script", SCRIPT.replace("put x 1", "put x 1 # it's here, isn't it"))
+    yield "quotes in no value", room.seen_briefly("./epaxos replay quotes.script > it.out")[1].count("hint"), 0
+
+
+def without_python(room):
+    """Where Python isn't on the PATH, and can't be installed."""
+    room.place()
+    said = "epaxos: {} needs python3, which isn't on the PATH; to install it on Debian, as root: apt-get install python3\n"
+    for words, what in (("up", "`epaxos up`"), ("test", "`epaxos test`"), ("--build", "the build")):
+        yield f"{words}, without Python", room.run(words, under="PATH=/nowhere /bin/bash"), (69, "", said.format(what))
+
+
 def builds(room):
     """How a build says how far it is."""
     line = r"epaxos: 0 of 2 crates proved, at ep_base \(0 min \d\d s\)"
@@ -349,7 +389,7 @@ def tried():
     passed = failed = 0
     with tempfile.TemporaryDirectory() as top:
         room = Room(top)
-        for part in (fixed, chosen, belonging, cheap, shown, builds):
+        for part in (fixed, chosen, belonging, cheap, shown, coloured, without_python, builds):
             for name, found, wanted in part(room):
                 is_well = found == wanted
                 passed, failed = passed + is_well, failed + (not is_well)

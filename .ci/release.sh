@@ -91,8 +91,10 @@ no_command() {
     grep -q "subcommands: replay, trace, .*, help]" /tmp/output
 }
 a_file_as_a_word() {
-    refusal ./epaxos replay examples/one_put.script
-    grep -q "epaxos replay < examples" /tmp/output
+    ./epaxos replay examples/one_put.script > /tmp/output
+    cmp /tmp/output examples/one_put.report
+    refusal ./epaxos examples/one_put.script
+    grep -q "epaxos reads a file so: epaxos replay examples" /tmp/output
 }
 # What a terminal shows, on which the fault output of a command comes.
 on_terminal() { python3 -c 'import pty, sys; sys.exit(pty.spawn(["sh", "-c", sys.argv[1]]) >> 8)' "$1" > /tmp/shown; }
@@ -101,7 +103,7 @@ hints() {
     echo "replicas 4" > /tmp/four.script
     status=0
     on_terminal "./epaxos replay < /tmp/four.script > /tmp/output" || status=$?
-    [ "$status" = 2 ] && shows "see: epaxos explain < "
+    [ "$status" = 2 ] && shows "see: epaxos explain " && shows "line 1, word 2: 4 is out of range"
 }
 progress() {
     unset EPAXOS_QUIET
