@@ -39,6 +39,7 @@ def rust(scratch, environment):
     for last in (4, 7):
         yield goes_on([f"{scratch}/target/debug/examples/generations", f"{scratch}/rust-generations"], environment, last)
     yield is_refused_without(environment, scratch)
+    yield is_checked_without(environment, scratch)
 
 
 def is_refused_without(environment, scratch):
@@ -46,6 +47,16 @@ def is_refused_without(environment, scratch):
     nowhere = {**environment, "EPAXOS_LIBRARY": f"{scratch}/nowhere"}
     ran = subprocess.run(["cargo", "check", "--offline", "--quiet"], cwd=CRATE, env=nowhere, stdin=subprocess.DEVNULL, stderr=subprocess.PIPE, text=True)
     return ran.returncode != 0 and f"{scratch}/nowhere/libepaxos.a" in ran.stderr
+
+
+def is_checked_without(environment, scratch):
+    """Whether the crate is checked and documented where no library was ever built, and a program says what is missing."""
+    shutil.copytree(CRATE, f"{scratch}/alone", ignore=shutil.ignore_patterns("target", "lib"))
+    how = {"cwd": f"{scratch}/alone", "stdin": subprocess.DEVNULL, "stderr": subprocess.PIPE, "text": True}
+    how["env"] = {name: it for name, it in environment.items() if name != "EPAXOS_LIBRARY"}
+    tried = (["check", "--examples"], ["doc", "--no-deps"], ["build", "--example", "lock"])
+    runs = [subprocess.run(["cargo", it[0], "--offline", *it[1:]], **how) for it in tried]
+    return [it.returncode for it in runs[:2]] == [0, 0] and runs[2].returncode and "there is no libepaxos.a" in runs[2].stderr
 
 
 def goes_on(words, environment, last):
@@ -97,6 +108,7 @@ def vectors():
     }
     yield commands == {name: known[name] for name in commands}
     yield all(refuses_tx(epaxos, **words) for words in NO_TX)
+    yield takes_text(epaxos)
     receipts = {name: epaxos._Fields(known[name]).receipt().answer for name in ("done", "done-untold", "undone")}
     yield receipts == {"done": (True, [None, b"old"]), "done-untold": (True, []), "undone": (False, [b""])}
     yield asked_by(lambda replica: replica.interfering(b"k"), known["found"]) == [known["interfering"]]
@@ -128,6 +140,22 @@ NO_TX = (
     {"delete": [it.to_bytes(2, "big") for it in range(1_025)]}, {"tell": [bytes([it]) for it in range(1, 18)]},
     {"put": {b"x": bytes(65_535), b"y": bytes(65_530)}},
 )  # fmt: skip
+
+
+def takes_text(epaxos):
+    """Whether a text stands for its bytes, wherever bytes are wanted, and nothing else does; and whether the fault that
+    callers meet first says what to do."""
+    same = [it("ä", "1") == it("ä".encode(), b"1") for it in (epaxos.put, epaxos.swap, epaxos.opaque)]
+    same.append(epaxos.cas("k", None, "v") == epaxos.cas(b"k", None, b"v"))
+    words = {"require": {"a": "1"}, "tell": ["a"], "put": {"b": "2"}, "delete": ["c"]}
+    plain = {"require": {b"a": b"1"}, "tell": [b"a"], "put": {b"b": b"2"}, "delete": [b"c"]}
+    same.append(epaxos.tx(**words) == epaxos.tx(**plain))
+    try:
+        epaxos.put(b"k", 5)
+    except TypeError:
+        said = str(epaxos.Fault("Unsynced")), str(epaxos.Fault("NotLeading", "0.1"))
+        return all(same) and "header" in said[0] and said[1] == "NotLeading 0.1"
+    return False
 
 
 def refuses_tx(epaxos, **words):

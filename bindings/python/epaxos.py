@@ -55,6 +55,19 @@ FAULTS = {
 # What tools/generate writes ends here.
 
 
+# What the refusals that callers meet first say.
+SAID = {
+    "Memory": "out of memory: the call may be made again",
+    "OutOfRange": "a number, a key or a value is out of its range",
+    "SpaceFull": "the generation has no number left for this replica's commands",
+    "NotCommitted": "the instance isn't committed yet: wait for it, or recover it",
+    "NotMine": "the frame is for another replica",
+    "BadFrame": "the bytes are no frame of this cluster's generation",
+    "Unsynced": "the log's new bytes, at first its header, have to be on the disk first: ready(), then synced()",
+    "NoReplica": "the replica was ended, or another thread is in a call with it",
+}
+
+
 class Fault(Exception):
     """A call was refused, and has changed nothing: `name`, as `NotCommitted`, and the instance that it names, if it does.
 
@@ -62,7 +75,8 @@ class Fault(Exception):
     """
 
     def __init__(self, name, instance=None):
-        super().__init__(f"{name} {instance}" if instance else name)
+        said = f": {SAID[name]}" if name in SAID else ""
+        super().__init__((f"{name} {instance}" if instance else name) + said)
         self.name, self.instance = name, instance
 
 
@@ -127,7 +141,7 @@ def get(key):
 
 
 def put(key, value):
-    """Gives a key a value; the answer is what it had."""
+    """Gives a key a value; the answer is what it had. Wherever bytes are wanted a text stands for its UTF-8."""
     return _command(3, key, body=value)
 
 
@@ -155,7 +169,8 @@ def tx(require=None, tell=(), put=None, delete=()):
 
     Fault OutOfRange: it names no key, or more than 1,024; it tells more than 16; a key is put and deleted; it has more
     than 131,080 bytes."""
-    require, tell, put, delete = dict(require or {}), {*tell}, dict(put or {}), {*delete}
+    require, put = ({_run(key): value for key, value in dict(it or {}).items()} for it in (require, put))
+    tell, delete = {*map(_run, tell)}, {*map(_run, delete)}
     keys = sorted({*require, *tell, *put, *delete})
     if not 1 <= len(keys) <= MOST_KEYS or len(tell) > MOST_TOLD or delete & {*put}:
         raise Fault("OutOfRange")
@@ -232,7 +247,13 @@ def first_opening(replicas):
     return run
 
 
+def _run(text):
+    """Bytes, or those that a text has in UTF-8."""
+    return text.encode() if isinstance(text, str) else bytes(memoryview(text))
+
+
 def _command(op, first, second=b"", body=b""):
+    first, second, body = _run(first), _run(second), _run(body)
     longest = LONGEST_TX if op in (6, 10) else LONGEST_VALUE
     if len(first) > LONGEST_KEY or len(second) > LONGEST_KEY or len(body) > longest:
         raise Fault("OutOfRange")
@@ -249,6 +270,7 @@ def _part(value):
 
 
 def _value(value):
+    value = _run(value)
     if len(value) > LONGEST_VALUE:
         raise Fault("OutOfRange")
     return value
@@ -595,9 +617,10 @@ def _instance(instance):
 
 
 def _key(key):
+    key = _run(key)
     if not 1 <= len(key) <= LONGEST_KEY:
         raise Fault("OutOfRange")
-    return bytes(key)
+    return key
 
 
 def _pair(fields):

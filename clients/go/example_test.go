@@ -7,7 +7,7 @@ import (
 	"log"
 	"time"
 
-	"epaxos"
+	"example.org/epaxos"
 )
 
 var (

@@ -14,7 +14,7 @@ PLACED = re.compile(
     r"crates/\w+/(?:specs|proofs)/.*\.antt|tests/\w+/proofs/.*|crates/\w+/(?:wrong|must-fail)/[\w.-]+\.edit"
     r"|\.ci/rows/[\w.-]+/(?:args|stdin|stdout|stderr|status|change|redirect)(?:\.gz|\.hex)?|\.ci/rows/[\w.-]+/files/.*"
     r"|(?:examples|\.ci/scripts)/[\w.-]+\.(?:script|run)"
-    r"|(?:.*/)?(?:README\.md|LICENSE|CHANGELOG\.md|CONTRIBUTING\.md|\.gitignore|Cargo\.toml|Cargo\.lock|rustfmt\.toml)"
+    r"|(?:.*/)?(?:README\.md|LICENSE|CHANGELOG\.md|CONTRIBUTING\.md|\.gitignore|pyproject\.toml|Cargo\.toml|Cargo\.lock|rustfmt\.toml)"
     r"|clients/go/\w+\.go|wip/[\w.-]+\.(?:patch|py)|(?:.*/)?src/(?:.*/)?(?:main|lib)\.r[st]|(?:.*/)?(?:tests|examples|benches|bin)/\w+\.rs|(?:.*/)?build\.rs|tests/\w+/lib\.rt\.txt|.*/start\.data"
 )
 # what stands beside a script

@@ -14,9 +14,11 @@ use std::{fmt, io};
 ///
 /// // nothing is there to go on with:
 /// let opened = Host::open(&Settings::new(Cluster::Three, 0), &MemoryDisk::default(), Instant::now());
-/// assert!(matches!(opened, Err(StartFault::Folder(_))));
+/// let why = opened.err().unwrap();
+/// assert!(matches!(why, StartFault::Folder(_)));
+/// // what `main` prints, where it returns one:
+/// assert_eq!(format!("{why:?}"), why.to_string());
 /// ```
-#[derive(Debug)]
 #[non_exhaustive]
 pub enum StartFault {
     /// A setting is out of its range.
@@ -53,6 +55,12 @@ impl fmt::Display for StartFault {
             ),
             StartFault::Restore(error) => restore(error, f),
         }
+    }
+}
+
+impl fmt::Debug for StartFault {
+    fn fmt(&self, f: &mut fmt::Formatter) -> fmt::Result {
+        fmt::Display::fmt(self, f)
     }
 }
 

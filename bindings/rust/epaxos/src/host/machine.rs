@@ -6,10 +6,9 @@ use std::io;
 /// which its replica executes them. Those with a common key have the same order everywhere, but for two that only read
 /// it.
 ///
-/// It is a function of its state and of what is ordered: no clock, no chance, nothing that one replica has and another
-/// hasn't. It touches only what belongs to the command's keys, and writes nothing where the command only reads. What it
-/// does isn't on any disk by itself: after a start it is [restored](Machine::restore), and does again what the logs
-/// have since.
+/// It must be deterministic: no clocks, randomness or replica-local state. It touches only what belongs to the
+/// command's keys, and writes nothing where the command only reads. What it does isn't on any disk by itself: after a
+/// start it is [restored](Machine::restore), and does again what the logs have since.
 ///
 /// ```
 /// use epaxos::host::{Machine, Ordered};

@@ -46,7 +46,7 @@ pub enum Told {
     /// The command was executed, and what it was answered isn't known: of one over many keys that requires something,
     /// not whether it was done either.
     DoneUnseen,
-    /// Nobody knows whether the command was done, nor will be: this replica was left behind by more than a generation.
+    /// The outcome is unknown and cannot be determined: this replica was left behind by more than a generation.
     Doubtful,
     /// What the key of a read has.
     Value(Option<Vec<u8>>),

@@ -26,11 +26,11 @@ pub struct Settings {
     pub identity: Option<Identity>,
     /// Decides what is left to chance. Another one at each start, and at each replica.
     pub seed: u64,
-    /// A generation is sealed once this replica has used so many of its numbers, 1 to 8,890,
+    /// A generation is sealed once this replica has used so many of its numbers: 1 to 8,890.
     pub numbers: u16,
-    /// or a command of it has so many dependencies,
+    /// A generation is sealed once one of its commands has so many dependencies.
     pub dependencies: u16,
-    /// or its log so many bytes.
+    /// A generation is sealed once its log has so many bytes.
     pub log: u64,
     /// The file that a generation opens with is written once the logs since the last one have so many bytes, and as
     /// many as that one, by one replica after the other.

@@ -22,7 +22,7 @@ pub enum CallFault {
     Refused(Refusal),
     /// It was done, and what it was answered isn't known.
     DoneUnseen,
-    /// Nobody knows whether it was done, nor will be.
+    /// The outcome is unknown and cannot be determined.
     Doubtful,
     /// The host has ended. Whether it was done shows in what the key has.
     Ended,
