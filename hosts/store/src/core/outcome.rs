@@ -12,7 +12,7 @@ pub enum Outcome {
     Done(OwnedAnswer),
     /// It was done, and what it was answered isn't known.
     DoneUnseen,
-    /// Nobody knows whether it was done, nor will be.
+    /// The outcome is unknown and cannot be determined.
     Doubtful,
     Refused(Fault),
     /// It wasn't proposed, as no majority is reached.
