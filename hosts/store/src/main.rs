@@ -125,11 +125,14 @@ enum StoreFault {
 const PASSING: u8 = 1;
 /// It must not come back with this folder, or needs a hand.
 const LASTING: u8 = 3;
+/// The folder is an older copy: another machine has to take the number.
+const OLDER: u8 = 4;
 
 impl StoreFault {
     fn status(&self) -> u8 {
         let is_lasting = match self {
             StoreFault::Stop(StopFault::Asked) => return 0,
+            StoreFault::Stop(stop) if stop.is_older() => return OLDER,
             StoreFault::Directory(fault) => fault.is_lasting(),
             StoreFault::Identities(_)
             | StoreFault::Starts(_)

@@ -5,7 +5,8 @@ use std::cell::Cell;
 use std::fs;
 use std::path::Path;
 use std::process::Command;
-use testing::client::Reply;
+use std::time::Duration;
+use testing::client::{Client, Reply};
 
 /// A generation ends after so few commands.
 const SHORT: [&str; 2] = ["--seal-numbers", "20"];
@@ -349,8 +350,40 @@ fn an_older_copy_of_a_folder_does_not_speak() {
     wait("its folder", || fs::rename(places.directory(2), places.folder.join("newer")).is_ok());
     copy(&places.folder.join("older"), &places.directory(2));
     let mut two = places.launch(&mut places.command(2), 2);
-    assert_eq!(two.status(), Some(3));
+    assert_eq!(two.status(), Some(4));
     assert!(two.logged().contains("the folder is an older copy"), "{}", two.logged());
+}
+
+/// The others have left the generation of the copy, and have what the machine proposed there since. Its clients are
+/// told nothing that isn't so.
+#[test]
+fn an_older_copy_of_a_generation_that_was_left_tells_nobody_that_it_has_done_something() {
+    let places = Places::new("left");
+    let [zero, one, two] = [0, 1, 2].map(|replica| places.start(replica));
+    set(&[&zero, &one, &two], 0..6);
+    drop(two);
+    copy(&places.directory(2), &places.folder.join("older"));
+    let two = places.start(2);
+    set(&[&two], 6..14);
+    drop(two);
+    operate(&zero, "EPAXOS SEAL");
+    wait("the other", || generation(&one) == 2);
+    wait("its folder", || fs::rename(places.directory(2), places.folder.join("newer")).is_ok());
+    copy(&places.folder.join("older"), &places.directory(2));
+    let mut two = places.launch(&mut places.command(2), 2);
+    two.await_logged(SERVES);
+    let connect = |_| Client::connect(places.port(2), Duration::from_secs(60)).ok();
+    let mut clients: Vec<Client> = (0..16).filter_map(connect).collect();
+    for (number, client) in clients.iter_mut().enumerate() {
+        let _ = client.send(&[&[b"SET", format!("new-{number}").as_bytes(), b"x"]]);
+    }
+    for (number, client) in clients.iter_mut().enumerate() {
+        let is_told = client.read().ok() == Some(Reply::Simple("OK".into()));
+        assert!(!is_told || zero.ask(&format!("GET new-{number}")) == Reply::Bulk(Some(b"x".to_vec())), "{number}");
+    }
+    assert_eq!(two.status(), Some(4));
+    assert!(two.logged().contains("generation 1 has done what this replica proposed as 2."), "{}", two.logged());
+    has_all(&zero, 6..14);
 }
 
 #[test]
@@ -371,7 +404,7 @@ fn an_older_copy_is_known_by_the_others_logs() {
     copy(&places.folder.join("older"), &places.directory(2));
     let others = [0, 1].map(|replica| places.start(replica));
     let mut two = places.launch(&mut places.command_of(2, 3), 2);
-    assert_eq!(two.status(), Some(3));
+    assert_eq!(two.status(), Some(4));
     assert!(two.logged().contains("the folder is an older copy"), "{}", two.logged());
     set(&others.each_ref(), 30..35);
 }

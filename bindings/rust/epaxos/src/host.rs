@@ -159,6 +159,9 @@ use std::time::{Duration, Instant};
 const TICK: Duration = Duration::from_secs(1);
 /// At a start no majority is waited for so much longer.
 const STARTING: Duration = Duration::from_secs(2);
+/// A start over a log hears all others before it acts, or waits so long for those that it doesn't reach: one of them
+/// may have seen more of this replica than its log has.
+const LISTENING: Duration = Duration::from_secs(1);
 /// What others have proposed is executed so often, where something was committed.
 const BETWEEN_EXECUTIONS: Duration = Duration::from_millis(200);
 /// And so often with what is written anyway: a seal is executed after all of it, and clients wait for that.
@@ -226,6 +229,8 @@ pub struct Host {
     calls: Calls<Held>,
     /// The greatest stamp that a receipt had.
     seen: u64,
+    /// Until when this start waits for others that it hasn't heard.
+    listens_until: Instant,
     /// What is to be asked of the core.
     pending: Pending<Held>,
     /// What peers have asked that the core has to answer.
@@ -499,8 +504,7 @@ impl Host {
     fn joining(settings: &Settings, stored: &impl Stored, now: Instant) -> Result<Host, StartFault> {
         starting::check_none(stored)?;
         let (start, counted) = starting::count(settings, stored)?;
-        let ids = Ids::new(settings.me, start)?;
-        let mut host = Host::new(settings, settings.cluster, (ids, State::default()), now)?;
+        let mut host = Host::new(settings, settings.cluster, (ids(settings, start)?, State::default()), now)?;
         host.joins = Some(BTreeMap::new());
         host.acts.push(counted);
         Ok(host)
@@ -509,7 +513,7 @@ impl Host {
     fn started(settings: &Settings, started: Started, now: Instant) -> Result<Host, StartFault> {
         let Started { acting, files, acts, start, executed, cluster, members } = started;
         let state = State { generation: acting.generation, ..State::default() };
-        let mut host = Host::new(settings, cluster, (Ids::new(settings.me, start)?, state), now)?;
+        let mut host = Host::new(settings, cluster, (ids(settings, start)?, state), now)?;
         if let Some(members) = members {
             match host.check_members(&members, acting.generation) {
                 Ok(()) => host.named = members,
@@ -533,12 +537,17 @@ impl Host {
         now: Instant,
     ) -> Result<Host, StartFault> {
         let place = Place { replicas: cluster.replicas().into(), replica: settings.me };
-        let progress = Progress::new(place, state, settings.seed, now).map_err(FolderFault::Open)?;
+        let mut progress = Progress::new(place, state, settings.seed, now).map_err(FolderFault::Open)?;
+        progress.others.is_blind = settings.has(Plant::SeesNothing);
         let reads = Reading::new(place.replicas, ids.sealer(), settings.planted_in_reads());
         let calls = Calls::new(settings.patience, settings.together, settings.most_map);
         Ok(Host {
             settings: settings.clone(),
-            progress: Progress { measures: !settings.has(Plant::FixedWaits), ..progress },
+            progress: Progress {
+                measures: !settings.has(Plant::FixedWaits),
+                is_trusting: settings.has(Plant::TakesForOwn),
+                ..progress
+            },
             acting: None,
             applying: None,
             observer: None,
@@ -552,6 +561,7 @@ impl Host {
             // (the peers may just be starting)
             calls: Calls { alone_since: Some(now + STARTING), ..calls },
             seen: 0,
+            listens_until: now,
             pending: Pending::default(),
             asked: VecDeque::new(),
             busy: None,
@@ -607,6 +617,7 @@ impl Host {
         *link = true;
         self.progress.watch.open(peer, now);
         self.progress.commits.open(peer, now);
+        self.progress.others.drop_early(peer);
         self.greet(peer);
         self.due = self.due.min(now);
     }
@@ -766,6 +777,9 @@ impl Host {
             self.hear(from, bytes, now)?;
         }
         self.hear_asked(now)?;
+        if self.is_listening(now) {
+            return Ok(());
+        }
         self.read_all(now)?;
         let mut batch = self.take_pending(now);
         self.release(&mut batch, now);
@@ -784,6 +798,11 @@ impl Host {
         Ok(())
     }
 
+    /// Whether this start may still learn that its log is an older copy, before it has promised anything by it.
+    fn is_listening(&self, now: Instant) -> bool {
+        now < self.listens_until && !self.progress.peers().all(|peer| self.progress.others.was_heard(peer))
+    }
+
     fn next_due(&self, now: Instant) -> Instant {
         let ping = self.progress.distances.due(now);
         let working = if self.acting.is_some() && self.busy.is_none() { self.next_work(now) } else { None };
@@ -798,6 +817,9 @@ impl Host {
 
     /// When there is something to ask the core next, if nothing happens before.
     fn next_work(&self, now: Instant) -> Option<Instant> {
+        if self.is_listening(now) {
+            return Some(self.listens_until);
+        }
         let watch = if self.progress.generation.is_sealed() { None } else { self.progress.watch.next() };
         let execution = self.executions.is_due().then_some(self.next_execution);
         let is_closing = self.progress.generation.stage == Stage::Committed && self.executions.is_due();
@@ -880,4 +902,10 @@ impl Host {
 fn check(settings: &Settings) -> Result<(), StartFault> {
     let is_well = settings.me < settings.cluster.replicas() && (1..=8_890).contains(&settings.numbers);
     if is_well { Ok(()) } else { Err(StartFault::OutOfRange) }
+}
+
+/// The numbers of a start.
+fn ids(settings: &Settings, start: u32) -> Result<Ids, StartFault> {
+    let seed = if settings.has(Plant::SameNumbers) { 0 } else { settings.seed };
+    Ids::new(settings.me, start, &mut Random::from_seed(seed))
 }

@@ -9,7 +9,7 @@ mod net;
 mod ports;
 
 use calls::{outcome_of, raise};
-use epaxos::host::{Act, FolderFault, Host, Name, Refusal, Settings, StartFault, Stored, Told, Wish};
+use epaxos::host::{Act, FolderFault, Host, HostFault, Name, Refusal, Settings, StartFault, Stored, Told, Wish};
 use epaxos::service::{Disk, Folder, MemoryDisk, Service, Start, TcpLink};
 use epaxos::sim::{Plan, Trouble, What, leave, run};
 use epaxos::{Cluster, OwnedAnswer, OwnedCommand};
@@ -149,6 +149,83 @@ fn an_older_copy_is_noticed_late() {
     };
     let (seen, failure) = run(&plan);
     assert_eq!((seen.older, failure), (1, None));
+}
+
+/// A copy of what a disk has in generation 1.
+fn copied(disk: &MemoryDisk) -> MemoryDisk {
+    let mut copy = MemoryDisk::default();
+    for (generation, name) in [(0, Name::Starts), (1, Name::Opening), (1, Name::Log)] {
+        let bytes = disk.read(generation, name).unwrap().unwrap();
+        copy.carry_out(&[Act::Put { generation, name, bytes }]).unwrap();
+    }
+    copy
+}
+
+/// A machine's commands since a copy of its disk were done, and the others have left that generation: who starts with
+/// the copy, and is asked at once for as much, ends before anybody is answered.
+#[test]
+fn a_copy_of_a_generation_that_others_have_left_ends() {
+    let settings = Settings::new(Cluster::Three, 0);
+    let put = |key: u8| OwnedCommand::Put { key: vec![key], value: vec![key] };
+    // (where it lacks nothing, it goes on, and so it does where it missed two generations)
+    for (lacks, seals) in [(8, 1), (1, 1), (0, 1), (8, 2)] {
+        let mut net = Net::begin(&settings);
+        assert_eq!(net.ask(put(0)), Told::Done(OwnedAnswer::Absent));
+        let copy = copied(&net.disks[2]);
+        for key in 0..lacks {
+            net.hosts[2].call(net.calls + 1, put(100 + key), net.now);
+            assert_eq!(net.outcome(), Told::Done(OwnedAnswer::Absent));
+        }
+        net.away = Some(2);
+        for _ in 0..seals {
+            net.hosts[0].wish(net.calls + 1, Wish::Seal, net.now);
+            assert!(matches!(net.outcome(), Told::Changed(_)));
+        }
+        while net.hosts[1].generation() <= seals {
+            net.turn();
+        }
+        net.start(2, &settings, copy);
+        (0..16).for_each(|key| net.hosts[2].call(1_000 + u64::from(key), put(200 + key), net.now));
+        let (mut told, mut fault) = (Vec::new(), None);
+        for _ in 0..5_000 {
+            match net.try_turn() {
+                Ok(replies) => told.extend(replies),
+                Err(found) => {
+                    fault = Some(found);
+                    break;
+                }
+            }
+        }
+        if lacks > 0 && seals == 1 {
+            let first =
+                matches!(&fault, Some(HostFault::Disowned { generation: 1, instance }) if instance.replica == 2);
+            assert!(first && told.is_empty(), "{fault:?} {told:?}");
+        } else {
+            assert!(fault.is_none() && told.len() == 16, "{fault:?} {told:?}");
+            let all = net.hosts[0].contents().unwrap();
+            assert!((0..16).all(|key| all.contains(&(vec![200 + key], vec![200 + key]))));
+        }
+    }
+}
+
+/// A start proposes nothing before it has heard all others, or a second has passed: one that it doesn't reach may have
+/// seen more of it than its log has.
+#[test]
+fn who_starts_listens_first() {
+    let settings = Settings::new(Cluster::Three, 0);
+    let put = |key: u8| OwnedCommand::Put { key: vec![key], value: vec![key] };
+    let mut net = Net::begin(&settings);
+    net.hosts[2].call(net.calls + 1, put(0), net.now);
+    assert_eq!(net.outcome(), Told::Done(OwnedAnswer::Absent));
+    let disk = copied(&net.disks[2]);
+    net.start(2, &settings, disk);
+    net.hosts[2].link_lost(1, net.now);
+    net.away = Some(1);
+    let begun = net.now;
+    net.hosts[2].call(net.calls + 1, put(1), net.now);
+    assert_eq!(net.outcome(), Told::Done(OwnedAnswer::Absent));
+    let took = net.now - begun;
+    assert!((Duration::from_millis(990)..Duration::from_millis(1_100)).contains(&took), "{took:?}");
 }
 
 /// A proposal's frame is lost soon after a recovery that ended what a machine had proposed before it was down for long,

@@ -20,8 +20,12 @@ pub enum StopFault {
 impl StopFault {
     /// Whether the replica must not come back with this folder.
     pub fn is_lasting(&self) -> bool {
-        let StopFault::Host(fault) = self else { return false };
-        matches!(fault, HostFault::Forgotten { .. } | HostFault::Replaced(_) | HostFault::Left(_))
+        matches!(self, StopFault::Host(HostFault::Replaced(_) | HostFault::Left(_)))
+    }
+
+    /// Whether the folder is an older copy: another machine has to take the number.
+    pub fn is_older(&self) -> bool {
+        matches!(self, StopFault::Host(HostFault::Forgotten { .. } | HostFault::Disowned { .. }))
     }
 }
 
@@ -38,6 +42,11 @@ impl fmt::Display for StopFault {
                 f,
                 "replica {peer} has seen entry {seen} of this one in generation {generation}, and here are {entries} entries: the folder is \
                  an older copy. This replica must not come back with it: it has forgotten what it promised"
+            ),
+            StopFault::Host(HostFault::Disowned { generation, instance }) => write!(
+                f,
+                "generation {generation} has done what this replica proposed as {instance}, and its log has no such proposal: \
+                 the folder is an older copy. This replica must not come back with it: it has forgotten what it promised"
             ),
             StopFault::Host(HostFault::Left(generation)) => {
                 write!(f, "from generation {generation} on this replica takes part no more")

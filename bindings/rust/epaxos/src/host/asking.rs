@@ -213,8 +213,8 @@ impl Host {
         let state = acting.replica.state()?;
         let (used, dependencies, entries) = (state.used, state.dependencies, state.entries);
         let generation = &mut self.progress.generation;
-        (generation.used, generation.dependencies) = (used.min(MOST_COMMANDS), dependencies);
-        generation.entries = entries;
+        (generation.used, generation.last, generation.dependencies) = (used.min(MOST_COMMANDS), used, dependencies);
+        (generation.entries, generation.first_entries) = (entries, entries);
         self.progress.recollect(&mut acting.replica)?;
         let none = Committed::new(self.progress.place.replicas);
         self.progress.commits.here.beyond(&none).for_each(|instance| self.executions.commit(instance));

@@ -151,14 +151,15 @@ impl Host {
             self.calls.room.settle(&command, None);
             return self.calls.hold_again(members);
         };
-        let proposal = self.progress.proposal(Call { client, request, seen: self.seen }, command, now);
+        let seen = if self.settings.has(super::Plant::SeenZero) { 0 } else { self.seen };
+        let proposal = self.progress.proposal(Call { client, request, seen }, command, now);
         batch.0.push(Request::Propose(proposal, members));
     }
 
     /// Has the generation sealed, where that is due.
     pub(super) fn seal(&mut self, batch: &mut Batch, now: Instant) {
         let is_used = self.is_opening_used(now);
-        let is_away = self.progress.is_alone() || self.ends;
+        let is_away = self.progress.is_alone() || self.progress.is_behind() || self.ends;
         if is_away || !self.progress.generation.wants_seal(&self.settings.limits(), is_used, now) {
             return;
         }

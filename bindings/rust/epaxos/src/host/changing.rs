@@ -1,5 +1,5 @@
 //! From one generation to the next.
-use super::{Act, Change, Host, HostFault, Name, Next, Plant, Work, applying, cluster_of, starting};
+use super::{Act, Change, Host, HostFault, LISTENING, Name, Next, Plant, Work, applying, cluster_of, starting};
 use crate::host::acting::Acting;
 use crate::host::{Refusal, Told};
 use crate::parts::calls::Fate;
@@ -95,7 +95,7 @@ impl Host {
         if !is_start {
             // (no call is under way, and each client goes on with its requests)
             self.ids.free_all();
-            self.progress.others.begin();
+            self.progress.others.begin(number);
         }
         let state = State { generation: number, ..State::default() };
         let took = self.changes_since.take().map(|since| now.saturating_duration_since(since));
@@ -115,6 +115,9 @@ impl Host {
         self.lag.end();
         self.next_execution = now;
         self.recollect()?;
+        if is_start && self.progress.generation.entries > 0 {
+            self.listens_until = now + LISTENING;
+        }
         let Some(acting) = &mut self.acting else { return Ok(()) };
         match self.progress.generation.entries {
             0 => self.calls.room.begin(acting.map(), self.progress.place.replicas),
@@ -172,6 +175,19 @@ impl Host {
         Ok(())
     }
 
+    /// Whether nothing was done in the present generation, by what the next one opens with, under a number of this
+    /// replica that its log doesn't have: each is in the log before anybody hears of it.
+    fn check_own(&self, opening: &Opening) -> Result<(), HostFault> {
+        let (generation, last) = (self.progress.generation.number, self.progress.generation.last);
+        let is_next = generation > 0 && opening.generation == generation.saturating_add(1);
+        let me = self.progress.place.replica;
+        let own = opening.executed.iter().filter(|it| is_next && it.replica == me && it.number > last);
+        match own.min().filter(|_| !self.progress.is_trusting) {
+            Some(instance) => Err(HostFault::Disowned { generation, instance: *instance }),
+            None => Ok(()),
+        }
+    }
+
     /// Begins the generation of an opening that a peer has handed.
     fn take_opening(&mut self, generation: u32, bytes: Vec<u8>, now: Instant) -> Result<(), HostFault> {
         self.fetch = None;
@@ -197,6 +213,7 @@ impl Host {
         } else if let Some(members) = &members {
             self.check_members(members, generation)?;
         }
+        self.check_own(&opening)?;
         let Some(replica) = starting::taken(&self.settings, opening.replicas, &bytes) else { return Ok(()) };
         if let Some(applying) = &mut self.applying
             && !self.settings.has(Plant::StaleMachine)
@@ -206,7 +223,8 @@ impl Host {
         }
         let next = Next { replicas: opening.replicas.into(), members };
         let before = self.progress.generation.number;
-        for (fate, Waiting { members, .. }) in self.calls.settle(&opening, before) {
+        let is_own = self.progress.has_met_all();
+        for (fate, Waiting { members, .. }) in self.calls.settle(&opening, before, is_own) {
             let outcome = match fate {
                 _ if self.settings.has(Plant::TakenTwice) => None,
                 Fate::Undone => None,

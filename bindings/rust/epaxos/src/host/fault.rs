@@ -1,7 +1,7 @@
 //! Why a host doesn't start, or ends.
 use crate::host::FolderFault;
 use crate::parts::plan_fault::PlanFault;
-use crate::{Fault, OpenFault, SucceedFault};
+use crate::{Fault, Instance, OpenFault, SucceedFault};
 use std::error::Error;
 use std::{fmt, io};
 
@@ -94,7 +94,7 @@ impl From<PlanFault> for StartFault {
 ///
 /// /// Whether a start with the same disk is of no use: another machine has to take the number.
 /// fn is_lost(fault: &HostFault) -> bool {
-///     matches!(fault, HostFault::Forgotten { .. })
+///     matches!(fault, HostFault::Forgotten { .. } | HostFault::Disowned { .. })
 /// }
 /// # assert!(!is_lost(&HostFault::NotAsked));
 /// ```
@@ -111,6 +111,14 @@ pub enum HostFault {
         seen: u32,
         /// How many the log has.
         entries: u32,
+    },
+    /// A generation has done something under a number of this replica that its log doesn't have: the log is an older
+    /// copy, and must not be gone on with.
+    Disowned {
+        /// The generation, which the others have left.
+        generation: u32,
+        /// What was done there.
+        instance: Instance,
     },
     /// The core has ended.
     Core(Fault),
@@ -145,6 +153,11 @@ impl fmt::Display for HostFault {
                 f,
                 "replica {peer} has seen entry {seen} of this one in generation {generation}, \
                  and the log has {entries}: it is an older copy, and the machine has to be replaced"
+            ),
+            HostFault::Disowned { generation, instance } => write!(
+                f,
+                "generation {generation} has done what this replica proposed as {instance}, and its log has no such \
+                 proposal: it is an older copy, and the machine has to be replaced"
             ),
             HostFault::Core(fault) => fault.fmt(f),
             HostFault::Succeed(fault) => fault.fmt(f),

@@ -61,13 +61,14 @@ impl Host {
         Ok(())
     }
 
-    /// What the core has to answer.
+    /// What the core has to answer; while this start is still listening, only how far peers are is heard.
     pub(super) fn hear_asked(&mut self, now: Instant) -> Result<(), HostFault> {
         for (from, message) in std::mem::take(&mut self.asked) {
             match message {
                 Message::Hello { generation, is_sealed, seen } => {
                     self.hear_hello(from, (generation, is_sealed, seen), now)?;
                 }
+                _ if self.is_listening(now) => self.asked.push_back((from, message)),
                 Message::Ask { generation, question, keys } => {
                     self.send_interfering(from, (generation, question), &keys)?;
                 }
@@ -99,9 +100,9 @@ impl Host {
         (generation, is_sealed, seen): (u32, bool, u32),
         now: Instant,
     ) -> Result<(), HostFault> {
-        if let Some(entries) =
-            self.progress.forgotten(generation, seen).filter(|_| !self.settings.has(Plant::Forgetful))
-        {
+        let spared = if self.settings.has(Plant::ForgetsFew) { 5 } else { 0 };
+        let forgotten = self.progress.forgotten(peer, generation, seen.saturating_sub(spared));
+        if let Some(entries) = forgotten.filter(|_| !self.settings.has(Plant::Forgetful)) {
             return Err(HostFault::Forgotten { peer, generation, seen, entries });
         }
         if self.progress.hear_hello(peer, (generation, is_sealed, seen)) {
@@ -132,9 +133,9 @@ impl Host {
 
     /// A peer has reported what is committed there.
     fn hear_commits(&mut self, from: u8, there: &Committed, now: Instant) -> Result<(), HostFault> {
-        let Some(acting) = self.acting.as_mut().filter(|_| !self.settings.has(Plant::NoCommitsAgain)) else {
-            return Ok(());
-        };
+        // (before a peer has reported what it saw of this replica it is sent no frame)
+        let is_taken = self.progress.others.is_heard(from) && !self.settings.has(Plant::NoCommitsAgain);
+        let Some(acting) = self.acting.as_mut().filter(|_| is_taken) else { return Ok(()) };
         let again = self.progress.hear_commits(from, there, &mut acting.replica, now)?;
         again.into_iter().for_each(|frame| self.send(from, frame));
         Ok(())

@@ -1,15 +1,20 @@
 //! The numbers under which a host proposes.
 use crate::host::StartFault;
+use crate::parts::random::Random;
 
 /// At most so many commands are under way at once, each under a client's number of its own.
 pub(super) const LANES: u16 = 1_024;
 /// So many starts have numbers.
 const STARTS: u32 = 1 << 19;
 
-/// The numbers of one start, which no other start and no other replica has. A client's requests follow one another.
+/// A start draws what the requests of each client begin at, below this.
+const FIRST_REQUESTS: u64 = 1 << 31;
+
+/// The numbers of one start, which no other start and no other replica has: also where the count of starts was set
+/// back, as requests begin by chance. A client's requests follow one another.
 pub(super) struct Ids {
     base: u32,
-    /// How many requests each one has made.
+    /// The last request of each one.
     requests: Vec<u32>,
     /// Those that wait for no answer.
     free: Vec<u16>,
@@ -17,12 +22,13 @@ pub(super) struct Ids {
 
 impl Ids {
     /// Those of the replica of this number at its start of this one, from 1.
-    pub(super) fn new(me: u8, start: u32) -> Result<Ids, StartFault> {
+    pub(super) fn new(me: u8, start: u32, random: &mut Random) -> Result<Ids, StartFault> {
         if !(1..STARTS).contains(&start) {
             return Err(StartFault::OutOfRange);
         }
         let base = start << 13 | u32::from(me);
-        Ok(Ids { base, requests: vec![0; usize::from(LANES)], free: (1..LANES).rev().collect() })
+        let requests = (0..LANES).map(|_| random.below(FIRST_REQUESTS) as u32).collect();
+        Ok(Ids { base, requests, free: (1..LANES).rev().collect() })
     }
 
     /// The same numbers, none of which waits for an answer any more.
@@ -61,10 +67,12 @@ mod tests {
 
     #[test]
     fn no_two_starts_and_no_two_replicas_have_a_number() {
-        assert!(Ids::new(0, 0).is_err() && Ids::new(0, STARTS).is_err());
+        let random = |seed| Random::from_seed(seed);
+        assert!(Ids::new(0, 0, &mut random(1)).is_err() && Ids::new(0, STARTS, &mut random(1)).is_err());
         let mut all = std::collections::BTreeSet::new();
-        for (me, start) in [(0, 1), (6, 1), (0, 2), (6, STARTS - 1)] {
-            let mut ids = Ids::new(me, start).unwrap();
+        // (the last one has the number of one before)
+        for (seed, (me, start)) in (1..).zip([(0, 1), (6, 1), (0, 2), (6, STARTS - 1), (0, 1)]) {
+            let mut ids = Ids::new(me, start, &mut random(seed << 8)).unwrap();
             assert!(all.insert(ids.seal()));
             (1..LANES).for_each(|_| assert!(all.insert(ids.take().unwrap())));
             assert_eq!(ids.take(), None);
@@ -72,7 +80,7 @@ mod tests {
             let ids_client = (client & !0x1fff) >> 13;
             if ids_client == start {
                 ids.give_back(client);
-                assert_eq!(ids.take(), Some((client, 2)));
+                assert_eq!(ids.take(), Some((client, all.last().unwrap().1 + 1)));
             }
         }
     }

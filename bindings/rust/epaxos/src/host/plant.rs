@@ -17,6 +17,14 @@ pub enum Plant {
     BeforeSync,
     /// An older copy of the log is gone on with.
     Forgetful,
+    /// The same, where peers have seen up to five entries more than it has.
+    ForgetsFew,
+    /// What is seen of peers is never noted.
+    SeesNothing,
+    /// With each proposal goes that no receipt was seen.
+    SeenZero,
+    /// What a generation that peers have left has done under a number of this replica is taken for what it proposed.
+    TakesForOwn,
     /// Answers are waited for 100 ms, however far the peers are.
     FixedWaits,
     /// An opening that is handed lacks its last key.
@@ -85,10 +93,14 @@ impl Plant {
     ///
     /// assert!(Plant::ALL.iter().all(|plant| Plant::read(&plant.to_string()) == Some(*plant)));
     /// ```
-    pub const ALL: [Plant; 32] = [
+    pub const ALL: [Plant; 36] = [
         Plant::EarlyAnswer,
         Plant::BeforeSync,
         Plant::Forgetful,
+        Plant::ForgetsFew,
+        Plant::SeesNothing,
+        Plant::SeenZero,
+        Plant::TakesForOwn,
         Plant::FixedWaits,
         Plant::WrongOpening,
         Plant::ReadFewer,

@@ -153,7 +153,7 @@ impl<M: Called> Calls<M> {
             return released;
         }
         self.alone_since = None;
-        if self.held.is_empty() || progress.generation.is_holding() {
+        if self.held.is_empty() || progress.generation.is_holding() || progress.is_behind() {
             return released;
         }
         if let Some(waits) = progress.distances.waits() {
@@ -246,12 +246,14 @@ impl<M: Called> Calls<M> {
         Some(waiting)
     }
 
-    /// What became of the commands that were under way in the generation before: the opening of the next one lists
-    /// those that were done. Then none is.
-    pub fn settle(&mut self, opening: &Opening, before: u32) -> Vec<(Fate, Waiting<M>)> {
+    /// What became of the commands that were under way in the generation before: the opening of the next one lists the
+    /// instances that were done there; `is_own`: whether what was done in one of this replica is surely what this start
+    /// proposed. Then none is.
+    pub fn settle(&mut self, opening: &Opening, before: u32, is_own: bool) -> Vec<(Fate, Waiting<M>)> {
         let fate = |instance: &Instance| match opening.executed.contains(instance) {
             _ if opening.generation != before + 1 => Fate::Doubtful,
-            true => Fate::Unseen,
+            true if is_own => Fate::Unseen,
+            true => Fate::Doubtful,
             false => Fate::Undone,
         };
         self.waiting.take().map(|waiting| (fate(&waiting.instance), waiting)).collect()
@@ -434,15 +436,16 @@ mod tests {
         assert!(it.answer((9, 1), &Answer::Absent).is_some() && it.answer((9, 1), &Answer::Absent).is_none());
         // What was under way the next opening has.
         let instance = Instance { replica: 0, number: 8 };
-        let fate = |it: &mut Calls<Ask>, generation, executed: &[Instance]| {
+        let fate = |it: &mut Calls<Ask>, (generation, is_own), executed: &[Instance]| {
             let command = OwnedCommand::Get { key: vec![1] };
             it.waiting.insert((9, 2), Waiting::new(instance, Whole { members: Vec::new(), command }));
             let opening = Opening { generation, executed: executed.iter().copied().collect(), ..Opening::default() };
-            let all: Vec<Fate> = it.settle(&opening, 3).into_iter().map(|(fate, _)| fate).collect();
+            let all: Vec<Fate> = it.settle(&opening, 3, is_own).into_iter().map(|(fate, _)| fate).collect();
             (all, it.waiting.is_empty())
         };
-        assert_eq!(fate(&mut it, 4, &[instance]), (vec![Fate::Unseen], true));
-        assert_eq!(fate(&mut it, 4, &[]), (vec![Fate::Undone], true));
-        assert_eq!(fate(&mut it, 5, &[instance]), (vec![Fate::Doubtful], true));
+        assert_eq!(fate(&mut it, (4, true), &[instance]), (vec![Fate::Unseen], true));
+        assert_eq!(fate(&mut it, (4, false), &[instance]), (vec![Fate::Doubtful], true));
+        assert_eq!(fate(&mut it, (4, false), &[]), (vec![Fate::Undone], true));
+        assert_eq!(fate(&mut it, (5, true), &[instance]), (vec![Fate::Doubtful], true));
     }
 }

@@ -38,12 +38,14 @@ pub enum Stage {
 /// The present generation.
 pub struct Generation {
     pub number: u32,
-    /// The number that the last own proposal took.
+    /// The number that the last own proposal took; and where seals count too, whose numbers stand above.
     pub used: u16,
+    pub last: u16,
     /// The most that an own command has.
     pub dependencies: u16,
-    /// How many entries the log has.
+    /// How many entries the log has, and had when this replica went on with it.
     pub entries: u32,
+    pub first_entries: u32,
     /// How many bytes the log had when it was last looked at.
     pub log: u64,
     pub stage: Stage,
@@ -66,8 +68,10 @@ impl Generation {
         Generation {
             number: state.generation,
             used: state.used,
+            last: state.used,
             dependencies: state.dependencies,
             entries: state.entries,
+            first_entries: state.entries,
             log: 0,
             stage: if state.is_sealed { Stage::Sealed(now) } else { Stage::Open },
             is_asked: false,

@@ -13,6 +13,10 @@ struct Other {
     is_sealed: bool,
     /// Whether it has reported how far it is since this replica has started.
     is_heard: bool,
+    /// The same of any machine under its number: before, this start has sent it no frame.
+    was_heard: bool,
+    /// Whether it has reported what it saw of this replica in the present generation, being in it.
+    is_met: bool,
     /// The greatest number of an entry of it that was seen in the present generation.
     seen: u32,
     /// The same of this replica that it has reported it saw.
@@ -26,12 +30,14 @@ pub struct Others {
     /// With who sent it and its generation.
     early: VecDeque<(u8, u32, Vec<u8>)>,
     early_bytes: usize,
+    /// Whether nothing that is seen is noted, where that is planted.
+    pub is_blind: bool,
 }
 
 impl Others {
     /// Nothing is known of so many replicas.
     pub fn new(replicas: usize) -> Others {
-        Others { all: vec![Other::default(); replicas], early: VecDeque::new(), early_bytes: 0 }
+        Others { all: vec![Other::default(); replicas], early: VecDeque::new(), early_bytes: 0, is_blind: false }
     }
 
     /// From now on there are so many.
@@ -39,15 +45,18 @@ impl Others {
         self.all.resize(replicas, Other::default());
     }
 
-    /// A generation begins, of which nothing was seen.
-    pub fn begin(&mut self) {
-        self.all.iter_mut().for_each(|other| (other.seen, other.sees) = (0, 0));
+    /// This generation begins, of which nothing was seen. (Who was there first has reported that it saw nothing.)
+    pub fn begin(&mut self, generation: u32) {
+        for other in &mut self.all {
+            (other.seen, other.sees, other.is_met) = (0, 0, other.is_heard && other.generation == generation);
+        }
     }
 
     /// An entry of a replica was seen in the present generation.
     pub fn see(&mut self, replica: u8, entry: u32) {
         if let Some(other) = self.all.get_mut(usize::from(replica))
             && entry > other.seen
+            && !self.is_blind
         {
             other.seen = entry;
         }
@@ -60,8 +69,13 @@ impl Others {
     /// A replica has reported the greatest entry of this one that it saw in the present generation.
     pub fn hear_seen(&mut self, replica: u8, entry: u32) {
         if let Some(other) = self.all.get_mut(usize::from(replica)) {
-            other.sees = entry;
+            (other.sees, other.is_met) = (entry, true);
         }
+    }
+
+    /// Whether it has reported so in the present generation, since this replica has started.
+    pub fn is_met(&self, replica: u8) -> bool {
+        self.all.get(usize::from(replica)).is_some_and(|other| other.is_met)
     }
 
     /// What it has reported so last.
@@ -73,8 +87,13 @@ impl Others {
     pub fn hear(&mut self, replica: u8, generation: u32, is_sealed: bool) -> bool {
         let Some(other) = self.all.get_mut(usize::from(replica)) else { return false };
         other.generation = generation;
-        other.is_sealed = is_sealed;
+        (other.is_sealed, other.was_heard) = (is_sealed, true);
         !std::mem::replace(&mut other.is_heard, true)
+    }
+
+    /// Whether a machine under this number has reported how far it is since this replica has started.
+    pub fn was_heard(&self, replica: u8) -> bool {
+        self.all.get(usize::from(replica)).is_some_and(|other| other.was_heard)
     }
 
     pub fn is_heard(&self, replica: u8) -> bool {
@@ -84,7 +103,7 @@ impl Others {
     /// Another machine has the replica's number.
     pub fn forget(&mut self, replica: u8) {
         if let Some(other) = self.all.get_mut(usize::from(replica)) {
-            *other = Other::default();
+            *other = Other { was_heard: other.was_heard, ..Other::default() };
         }
     }
 
@@ -117,6 +136,12 @@ impl Others {
             let Some((.., oldest)) = self.early.pop_front() else { break };
             self.early_bytes -= oldest.len();
         }
+    }
+
+    /// A replica has another connection: of what came before nothing is waited for.
+    pub fn drop_early(&mut self, from: u8) {
+        self.early.retain(|(sender, ..)| *sender != from);
+        self.early_bytes = self.early.iter().map(|(.., frame)| frame.len()).sum();
     }
 
     /// Takes the frames of this generation out, in the order in which they came. Those of earlier ones are dropped.
@@ -152,12 +177,14 @@ mod tests {
         it.hear(1, 3, true);
         assert!(it.has_sealed(1, 3) && !it.has_sealed(1, 4));
         it.forget(1);
-        assert!(!it.is_heard(1));
+        assert!(!it.is_heard(1) && it.was_heard(1) && !it.was_heard(2));
         [(1, 7), (1, 6), (3, 9)].into_iter().for_each(|(replica, entry)| it.see(replica, entry));
         it.hear_seen(1, 5);
         assert_eq!([0, 1, 3].map(|replica| (it.seen(replica), it.sees(replica))), [(0, 0), (7, 5), (0, 0)]);
-        it.begin();
-        assert_eq!((it.seen(1), it.sees(1)), (0, 0));
+        assert!(it.is_met(1) && !it.is_met(2));
+        it.hear(2, 5, false);
+        it.begin(5);
+        assert_eq!((it.seen(1), it.sees(1), it.is_met(1), it.is_met(2)), (0, 0, false, true));
     }
 
     #[test]
@@ -171,6 +198,10 @@ mod tests {
         it.keep_early(1, 2, vec![9]);
         assert_eq!(it.take_early(3), [(1, vec![3])]);
         assert_eq!(it.early_bytes, 0);
+        it.keep_early(1, 4, vec![4]);
+        it.keep_early(2, 4, vec![4, 4]);
+        it.drop_early(1);
+        assert_eq!((it.early_bytes, it.take_early(4)), (2, vec![(2, vec![4, 4])]));
         for _ in 0..100 {
             it.keep_early(1, 9, vec![0; 200_000]);
         }

@@ -58,6 +58,8 @@ pub struct Progress {
     pub links: Vec<bool>,
     /// Whether waits go by how long answers take; not so where that is planted.
     pub measures: bool,
+    /// Whether it never doubts that its log is the newest one, where that is planted.
+    pub is_trusting: bool,
     pub counts: Counts,
 }
 
@@ -82,6 +84,7 @@ impl Progress {
             watch,
             links: vec![false; MOST_REPLICAS.into()],
             measures: true,
+            is_trusting: false,
             counts: Counts::default(),
         }
     }
@@ -165,11 +168,28 @@ impl Progress {
     }
 
     /// Where this replica has forgotten what a peer has seen of it in this generation: how many entries it has of that.
-    pub fn forgotten(&self, generation: u32, seen: u32) -> Option<u32> {
+    /// A peer that is heard for the first time can have seen none of this start: before, it was sent none.
+    pub fn forgotten(&self, peer: u8, generation: u32, seen: u32) -> Option<u32> {
         let own = self.generation.number;
-        let entries = if generation == own { self.generation.entries } else { 0 };
+        let entries = match self.others.was_heard(peer) {
+            _ if generation != own => 0,
+            true => self.generation.entries,
+            false => self.generation.first_entries,
+        };
         // (what a machine before this one has reported isn't forgotten: it was another one's)
         (own > 0 && generation >= own && seen > entries).then_some(entries)
+    }
+
+    /// Whether a peer that is reached has left the present generation: nothing that is proposed there now is ever done.
+    pub fn is_behind(&self) -> bool {
+        let has_left = |peer| self.others.generation(peer) > self.generation.number;
+        !self.is_trusting && self.reached().any(has_left)
+    }
+
+    /// Whether all others have reported in the present generation, since this start, what they saw of this replica: so
+    /// nothing was done under its numbers there that it has forgotten.
+    pub fn has_met_all(&self) -> bool {
+        self.is_trusting || self.peers().all(|peer| self.others.is_met(peer))
     }
 
     /// What is reported to a peer of how far this replica is.
@@ -240,6 +260,7 @@ impl Progress {
 
     /// An own proposal took this instance, and spares this replica, if it names one.
     pub fn propose(&mut self, instance: Instance, spared: Option<u8>, now: Instant) {
+        self.generation.last = self.generation.last.max(instance.number);
         if instance.number <= MOST_COMMANDS {
             self.generation.used = self.generation.used.max(instance.number);
         }

@@ -1,7 +1,7 @@
 //! Hosts in one thread, over disks in memory.
 #![allow(dead_code)] // (each test uses a part)
 use epaxos::OwnedCommand;
-use epaxos::host::{Host, Reply, Settings, Told, Work};
+use epaxos::host::{Host, HostFault, Reply, Settings, Told, Work};
 use epaxos::service::{Disk, MemoryDisk};
 use std::time::{Duration, Instant};
 
@@ -31,11 +31,28 @@ impl Net {
         Net { hosts, disks, now, calls: 0, away: None, written: 0, followed: 0, writes: false }
     }
 
+    /// One starts with this disk, and is reached again.
+    pub fn start(&mut self, me: u8, settings: &Settings, disk: MemoryDisk) {
+        let settings = Settings { me, seed: 1_000 + u64::from(me), ..settings.clone() };
+        let place = usize::from(me);
+        (self.hosts[place], self.disks[place]) = (Host::open(&settings, &disk, self.now).unwrap(), disk);
+        self.away = None;
+        for peer in (0..3).filter(|peer| *peer != me) {
+            self.hosts[place].link_opened(peer, self.now);
+            self.hosts[usize::from(peer)].link_opened(me, self.now);
+        }
+    }
+
     /// A turn of each: who is answered what.
     pub fn turn(&mut self) -> Vec<Reply> {
+        self.try_turn().unwrap()
+    }
+
+    /// The same, or why one of them has ended.
+    pub fn try_turn(&mut self) -> Result<Vec<Reply>, HostFault> {
         let (mut frames, mut replies) = (Vec::new(), Vec::new());
         for ((me, host), disk) in (0..).zip(&mut self.hosts).zip(&mut self.disks) {
-            let turn = host.turn(self.now).unwrap();
+            let turn = host.turn(self.now)?;
             frames.extend(turn.frames.into_iter().map(|(to, bytes)| (me, to, bytes)));
             replies.extend(turn.replies);
             if let Some(writes) = turn.writes {
@@ -64,11 +81,11 @@ impl Net {
         }
         for (from, to, bytes) in frames {
             if ![from, to].map(Some).contains(&self.away) {
-                self.hosts[usize::from(to)].receive(from, bytes, self.now).unwrap();
+                self.hosts[usize::from(to)].receive(from, bytes, self.now)?;
             }
         }
         self.now += Duration::from_millis(1);
-        replies
+        Ok(replies)
     }
 
     /// What the first one's client is answered to a command.
