@@ -23,6 +23,9 @@ use std::sync::{Arc, mpsc};
 use std::time::{Duration, Instant};
 use std::{env, io, thread};
 
+/// In so many runs machines come back with older copies of their disks, some of which have to be noticed.
+const MANY: u64 = 200;
+
 /// What is asked for.
 struct Options {
     first: u64,
@@ -260,13 +263,14 @@ fn main() -> ExitCode {
         options.first, seen.asks, seen.told, seen.given_up, seen.commands, seen.together, seen.generations
     );
     println!(
-        "{} crashes, {} slow ends, {} machines replaced, {} resizes, {} older copies noticed, {} generations audited, \
-         {} frames; {:.0} s simulated in {:.1} s",
+        "{} crashes, {} slow ends, {} machines replaced, {} resizes, {} of {} older copies noticed, {} generations \
+         audited, {} frames; {:.0} s simulated in {:.1} s",
         seen.crashes,
         seen.ended,
         seen.replaced,
         seen.resized,
         seen.older,
+        seen.copies,
         seen.audited,
         seen.frames,
         seen.time.as_secs_f64(),
@@ -280,6 +284,10 @@ fn main() -> ExitCode {
         );
     }
     println!("digest {:016x}", seen.digest);
+    if count >= MANY && seen.older == 0 {
+        println!("no host has noticed that its disk is an older copy");
+        return ExitCode::FAILURE;
+    }
     match failed {
         None => ExitCode::SUCCESS,
         Some(seed) if options.day.is_some() => {

@@ -37,6 +37,7 @@ mod failure;
 mod judge;
 mod left;
 mod mix;
+mod older;
 mod operator;
 mod pair;
 mod plan;
@@ -50,7 +51,7 @@ pub use audit::Audit;
 pub use failure::Failure;
 pub use left::Left;
 pub use mix::Mix;
-pub use plan::{Plan, Trouble, What};
+pub use plan::{Age, Plan, Trouble, What};
 pub use seen::Seen;
 pub use workload::Workload;
 

@@ -11,7 +11,7 @@ mod ports;
 use calls::{outcome_of, raise};
 use epaxos::host::{Act, FolderFault, Host, HostFault, Name, Refusal, Settings, StartFault, Stored, Told, Wish};
 use epaxos::service::{Disk, Folder, MemoryDisk, Service, Start, TcpLink};
-use epaxos::sim::{Plan, Trouble, What, leave, run};
+use epaxos::sim::{Age, Plan, Trouble, What, leave, run};
 use epaxos::{Cluster, OwnedAnswer, OwnedCommand};
 use net::Net;
 use ports::Ports;
@@ -144,7 +144,7 @@ fn an_older_copy_is_noticed_late() {
         delays: vec![vec![500; 3]; 3],
         lost: 0,
         numbers: 8_000,
-        troubles: vec![trouble(6_000, What::Older, 0), trouble(11_000, What::Pause, 15_000)],
+        troubles: vec![trouble(6_000, What::Older(Age::Before), 0), trouble(11_000, What::Pause, 15_000)],
         ..Plan::of_seed(3)
     };
     let (seen, failure) = run(&plan);

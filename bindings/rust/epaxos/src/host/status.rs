@@ -214,6 +214,11 @@ impl Host {
         self.progress.generation.number
     }
 
+    /// How many entries the log of its generation has.
+    pub(crate) fn status_entries(&self) -> u32 {
+        self.progress.generation.entries
+    }
+
     /// How many calls were proposed with others since the start.
     pub(crate) fn status_together(&self) -> u64 {
         self.calls.together

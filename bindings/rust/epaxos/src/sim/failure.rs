@@ -24,6 +24,8 @@ pub enum Failure {
     Ended(u8, String),
     /// An older copy of a disk was gone on with.
     Older(u8),
+    /// A client's request says that it hasn't seen the receipt that the client had before.
+    Unseen(String),
     /// Nothing goes wrong any more, and something still waits, or the replicas don't agree.
     Stuck(String),
     /// Nothing went wrong, and something was recovered.
@@ -52,6 +54,7 @@ impl fmt::Display for Failure {
             Failure::DoneTwice(what) => write!(f, "done twice: {what}"),
             Failure::Ended(machine, why) => write!(f, "the host of machine {machine} has ended: {why}"),
             Failure::Older(machine) => write!(f, "machine {machine} goes on with an older copy of its disk"),
+            Failure::Unseen(what) => write!(f, "a receipt wasn't handed in: {what}"),
             Failure::Stuck(what) => write!(f, "stuck: {what}"),
             Failure::Recovered(count) => write!(f, "nothing went wrong, and {count} instances were recovered"),
             Failure::Refused(what) => write!(f, "the audit refuses {what}"),

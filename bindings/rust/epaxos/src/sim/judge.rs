@@ -3,7 +3,7 @@ use super::failure::Failure;
 use super::pair::Pair;
 use crate::host::Done;
 use crate::parts::linearizable::{self, Action, Operation, Verdict};
-use crate::{Instance, OwnedAnswer, OwnedCommand};
+use crate::{Fields, Instance, OwnedAnswer, OwnedCommand, Receipt};
 use std::collections::{BTreeMap, HashMap};
 
 /// What a client has asked for.
@@ -64,6 +64,9 @@ impl Asked {
     }
 }
 
+/// The bits of a client's number that aren't the start's, nor the replica's: of those that propose seals none is there.
+const CLIENTS: u32 = 0x1ff8;
+
 /// What was executed in one instance.
 type Executed = (Option<OwnedCommand>, OwnedAnswer);
 
@@ -76,6 +79,8 @@ pub(super) struct Judge {
     orders: BTreeMap<(u32, Vec<u8>), Vec<Instance>>,
     /// How far each start of each machine is in them.
     places: BTreeMap<(u8, u32), BTreeMap<(u32, Vec<u8>), usize>>,
+    /// The stamp of the last receipt of each client of the protocol, at each start of each machine.
+    stamps: BTreeMap<((u8, u32), u32), u64>,
     /// Where each value was put.
     puts: HashMap<Vec<u8>, (u32, Instance)>,
     /// No machine begins with an earlier generation than this one.
@@ -126,6 +131,22 @@ impl Judge {
                 }
             }
             *place += 1;
+        }
+        Ok(())
+    }
+
+    /// A start of a machine has handed out these receipts. A client's next request has seen the one before.
+    pub(super) fn hear_receipts(&mut self, at: (u8, u32), receipts: &[u8]) -> Result<(), Failure> {
+        let mut fields = Fields::new(receipts);
+        // (a seal is nobody's)
+        while let Some(Receipt { client, request, seen, stamp, answer, .. }) = Receipt::read(&mut fields) {
+            let is_seal = client & CLIENTS == 0;
+            let last = self.stamps.insert((at, client), stamp).filter(|_| !is_seal).unwrap_or_default();
+            if seen < last {
+                let what =
+                    format!("request {request} of {client}, answered {answer:?}, has seen {seen}, and not {last}");
+                return Err(Failure::Unseen(what));
+            }
         }
         Ok(())
     }

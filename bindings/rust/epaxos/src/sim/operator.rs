@@ -64,8 +64,8 @@ impl Operator {
         token >= WISHES
     }
 
-    fn next(&mut self) -> u64 {
-        self.count += 1;
+    pub(super) fn next(&mut self) -> u64 {
+        self.count += 8;
         WISHES + self.count
     }
 }

@@ -106,8 +106,8 @@ pub enum What {
     Apart(bool),
     /// It is gone for good, and another one takes its number.
     Replace,
-    /// It loses its power, and comes back with an older copy of its disk, which it must notice. Then it is replaced.
-    Older,
+    /// It loses its power, and comes back with an older copy of its disk. Where it notices that, it is replaced.
+    Older(Age),
     /// Its disk says that all is on it and keeps nothing, and then it loses its power. No host is promised anything
     /// then: [`Plan::lying`].
     Lie,
@@ -115,6 +115,24 @@ pub enum What {
     Resize(Cluster),
     /// It is asked to end, and ends once it has answered who asked, or after five seconds.
     End,
+}
+
+/// How much older a copy of a disk is. All others notice one that lacks entries that they have seen.
+///
+/// ```
+/// use epaxos::sim::{Age, Trouble, What};
+///
+/// let older = Trouble { at: 1_000_000, machine: 0, what: What::Older(Age::Entries(1)), lasts: 0 };
+/// # assert!(older.to_string().contains("older copy"));
+/// ```
+#[derive(Clone, Copy, PartialEq, Eq, Debug)]
+pub enum Age {
+    /// It was made three seconds before.
+    Before,
+    /// It lacks so many entries that all others have seen, or few more.
+    Entries(u32),
+    /// It lacks so many entries, or few more, and all others have left its generation before the machine comes back.
+    Left(u32),
 }
 
 impl fmt::Display for Trouble {
@@ -132,7 +150,7 @@ impl fmt::Display for Trouble {
             }
             What::Apart(is_reported) => format!("is cut off from all{}", if is_reported { "" } else { " in silence" }),
             What::Replace => "is replaced by another one".into(),
-            What::Older => "loses its power, and comes back with an older copy of its disk".into(),
+            What::Older(age) => format!("loses its power, and comes back with an older copy of its disk: {age:?}"),
             What::Lie => "has a disk that says what isn't so".into(),
             What::End => "is told to end".into(),
             What::Resize(cluster) => return write!(f, "at {at} ms {} machines are wished for", cluster.replicas()),
@@ -213,6 +231,7 @@ impl Plan {
             plan.troubles.sort_by_key(|trouble| trouble.at);
             plan.end();
             plan.resize();
+            plan.set_back();
         }
         plan
     }
@@ -234,6 +253,18 @@ impl Plan {
             if chance % 4 == 0 {
                 trouble.what =
                     What::Resize([Cluster::Three, Cluster::Five, Cluster::Seven][(chance >> 8) as usize % 3]);
+            }
+        }
+    }
+
+    /// Of the older copies three in four are older by a number of entries: one, or up to a hundred.
+    fn set_back(&mut self) {
+        for (number, trouble) in (0..).zip(&mut self.troubles) {
+            if trouble.what == What::Older(Age::Before) {
+                let chance = mixed(self.seed ^ number << 32 ^ 0x6167);
+                let most = 1 + (chance >> 8) as u32 % 100;
+                let ages = [Age::Before, Age::Entries(1), Age::Entries(most), Age::Left(most)];
+                trouble.what = What::Older(ages[chance as usize % 4]);
             }
         }
     }
@@ -278,7 +309,7 @@ impl Plan {
             11..13 => What::Apart(random.below(2) == 0),
             13..15 => What::Replace,
             15..17 => What::CrashInCalls(1 + random.below(3) as u8),
-            _ => What::Older,
+            _ => What::Older(Age::Before),
         };
         let lasts = [20 * MS, 300 * MS, 2 * S, 8 * S][random.below(4) as usize];
         Trouble { at: S + random.below(length), machine, what, lasts: lasts + random.below(lasts) }
@@ -317,6 +348,7 @@ impl Plan {
         };
         plan.troubles = (0..24).map(|_| plan.trouble(&mut random, day)).collect();
         plan.troubles.sort_by_key(|trouble| trouble.at);
+        plan.set_back();
         plan
     }
 

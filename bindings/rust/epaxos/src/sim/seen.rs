@@ -39,7 +39,9 @@ pub struct Seen {
     pub replaced: u64,
     /// Wishes for another number of machines that were granted.
     pub resized: u64,
-    /// Older copies of disks that were noticed.
+    /// Machines that came back with an older copy of their disks.
+    pub copies: u64,
+    /// How many of these a host has noticed.
     pub older: u64,
     /// Disks that had lied, and lost what they had said was there.
     pub lies: u64,
@@ -91,6 +93,7 @@ impl AddAssign for Seen {
         self.ended += other.ended;
         self.replaced += other.replaced;
         self.resized += other.resized;
+        self.copies += other.copies;
         self.older += other.older;
         self.lies += other.lies;
         self.lies_noticed += other.lies_noticed;

@@ -6,9 +6,10 @@ use super::failure::Failure;
 use super::judge::{Asked, Judge, Kind};
 use super::left::{self, Left};
 use super::mix::Mix;
+use super::older::Older;
 use super::operator::{Operator, Task};
 use super::pair::{self, Pair};
-use super::plan::{Plan, Trouble, What, mixed};
+use super::plan::{Age, Plan, Trouble, What, mixed};
 use super::queue::Queue;
 use super::registers::Registers;
 use super::seen::Seen;
@@ -39,10 +40,6 @@ const WITHIN: u64 = 60 * S;
 const READ_AT_ONCE: u32 = 16;
 /// So much a machine is asked at once where it is to lose its power with calls under way.
 const AT_ONCE: u64 = 4;
-/// An older copy is to be noticed within so long.
-const NOTICED: u64 = 4 * S;
-/// So long after it was made, it comes back.
-const OLDER: u64 = 3 * S;
 /// A host that was asked to end has so long for it.
 const ENDING: u64 = 5 * S;
 /// (one of the machines' clocks never reads less)
@@ -67,7 +64,8 @@ pub(super) enum Event {
     Start(u8),
     Again(u8),
     Mended(u8, u8, bool),
-    Back(u8),
+    Back(u8, Age, u8),
+    Left(u8, u8),
     Fail(u8),
     Check(u8, u32),
     Operate(u64),
@@ -95,20 +93,17 @@ pub(super) struct Machine {
     pub(super) how: How,
     /// How many machines have had its number before.
     pub(super) before: u8,
-    paused: u64,
+    pub(super) paused: u64,
     /// Its clock: what it reads at first, and how it runs, in parts of 1,000,000.
     begin: u64,
     rate: u64,
     /// When its host has its next turn.
     turn: u64,
     crash_in_change: Option<(u8, u64)>,
-    /// An older copy of its disk, with its generation and how many entries that has.
-    copy: Option<(Content, u32, u32)>,
-    /// It must be noticed that its disk is an older copy, of this generation, and with so many entries.
-    pub(super) older: Option<(u32, u32)>,
+    pub(super) older: Older,
     /// Its disk has lost what it had said was there.
     has_lied: bool,
-    is_busy: bool,
+    pub(super) is_busy: bool,
     recoveries: u64,
     /// Since when it has reached a majority, and all.
     able: Option<u64>,
@@ -138,16 +133,16 @@ pub(super) struct World<'a> {
     judge: Judge,
     /// The first question that may not be answered yet.
     first_open: usize,
-    left: u32,
+    pub(super) left: u32,
     pub(super) unhealed: usize,
     pub(super) seen: Seen,
     audit: Option<&'a Audit>,
     /// Whether all that the disks had is kept, with the receipts.
-    keeps: bool,
+    pub(super) keeps: bool,
     /// What is known of the state machines, where they are somebody's own.
     own: Option<Own>,
     /// What the disks have of machines that were replaced, and the receipts of each generation, for an audit.
-    gone: Vec<(u8, Content)>,
+    pub(super) gone: Vec<(u8, Content)>,
     receipts: BTreeMap<u32, Vec<u8>>,
 }
 
@@ -166,8 +161,7 @@ impl<'a> World<'a> {
             rate: S + random.below(2 * plan.drift * 1_000 + 1) - plan.drift * 1_000,
             turn: u64::MAX,
             crash_in_change: None,
-            copy: None,
-            older: None,
+            older: Older::default(),
             has_lied: false,
             is_busy: false,
             recoveries: 0,
@@ -437,7 +431,9 @@ impl<'a> World<'a> {
             Event::Frame { from, to, bytes } => {
                 self.seen.note(&[from, to], &bytes);
                 let now = self.clock(to, self.now);
-                let Some(host) = &mut self.machine(to).host else { return Ok(()) };
+                let it = self.machine(to);
+                let Some(host) = &mut it.host else { return Ok(()) };
+                it.older.deliver(from, &bytes, host.generation());
                 let heard = host.receive(from, bytes, now);
                 self.hear(to, heard)
             }
@@ -455,6 +451,7 @@ impl<'a> World<'a> {
                 let Some(host) = &mut it.host else { return Ok(()) };
                 let heard = host.synced(number, now);
                 self.seen.note(&[machine, 250], &number.to_be_bytes());
+                self.mark(machine);
                 self.hear(machine, heard)
             }
             Event::Kept { machine, start, generation, bytes } => {
@@ -570,7 +567,11 @@ impl<'a> World<'a> {
                 self.unhealed -= 1;
                 Ok(())
             }
-            Event::Back(machine) => self.come_back(machine),
+            Event::Back(machine, age, tries) => {
+                self.come_back(machine, age, tries);
+                Ok(())
+            }
+            Event::Left(machine, tries) => self.leave_behind(machine, tries),
             Event::Fail(machine) => {
                 let it = self.machine(machine);
                 if it.host.is_some() && it.disk.is_lying() {
@@ -580,28 +581,7 @@ impl<'a> World<'a> {
                 Ok(())
             }
             Event::Operate(token) => self.operate(token),
-            Event::Check(machine, start) => {
-                let it = &self.machines[usize::from(machine)];
-                let Some(host) = it.host.as_ref().filter(|_| it.start == start) else { return Ok(()) };
-                match it.older.filter(|(generation, _)| *generation == host.status().generation) {
-                    // (a generation that all have left needs nothing of it any more)
-                    None => self.machine(machine).older = None,
-                    Some(_) if host.status().reached.is_empty() || it.paused + NOTICED > self.now => {
-                        // (it stood still meanwhile, or was cut off, so that nobody could notify it)
-                        self.after(NOTICED, Event::Check(machine, start));
-                    }
-                    Some(older) if self.others_saw(machine, older).any(|saw| saw) => {
-                        return Err(Failure::Older(machine));
-                    }
-                    Some(_) => {
-                        // (meanwhile the others have gone on, and have seen nothing of it since)
-                        self.stop(machine, None);
-                        self.replace(machine);
-                        self.after(S, Event::Start(machine));
-                    }
-                }
-                Ok(())
-            }
+            Event::Check(machine, start) => self.check_older(machine, start),
         }
     }
 
@@ -636,7 +616,7 @@ impl<'a> World<'a> {
             }
         }
         let first = |content: &Content| content.keys().map(|(generation, _)| *generation).find(|it| *it > 0);
-        let copies = self.machines.iter().flat_map(|it| it.copy.as_ref().map(|(content, ..)| content));
+        let copies = self.machines.iter().flat_map(|it| it.older.copy.as_ref().map(|(content, ..)| content));
         let disks = self.machines.iter().map(|it| it.disk.least());
         let least = disks.chain(copies).filter_map(first).min();
         self.judge.forget(least.unwrap_or_default());
@@ -718,8 +698,9 @@ impl<'a> World<'a> {
             return Ok(());
         }
         let it = self.machine(machine);
-        let (is_older, has_lied) = (it.older.is_some(), it.has_lied);
-        if !matches!(fault, HostFault::Forgotten { .. }) || !(is_older || has_lied) {
+        let (is_older, has_lied) = (it.older.is.is_some(), it.has_lied);
+        let is_it = matches!(fault, HostFault::Forgotten { .. } | HostFault::Disowned { .. });
+        if !is_it || !(is_older || has_lied) {
             return Err(Failure::Ended(machine, fault.to_string()));
         }
         self.seen.older += u64::from(is_older);
@@ -752,6 +733,7 @@ impl<'a> World<'a> {
         it.recoveries = it.recoveries.max(recoveries);
         self.seen.turns += 1;
         self.seen.together += together;
+        self.judge.hear_receipts((machine, start), &receipts)?;
         if self.keeps && !receipts.is_empty() {
             self.receipts.entry(generation).or_default().extend(receipts);
         }
@@ -829,6 +811,7 @@ impl<'a> World<'a> {
 
     fn send(&mut self, from: u8, to: u8, bytes: Vec<u8>) {
         self.seen.frames += 1;
+        self.machine(from).older.send(&bytes);
         if self.is_cut(from, to) {
             return;
         }
@@ -884,7 +867,7 @@ impl<'a> World<'a> {
     }
 
     /// Asks a machine, whose host is there: by which number.
-    fn put_question(&mut self, machine: u8, (key, kind, _): (u32, Kind, u32)) -> u64 {
+    pub(super) fn put_question(&mut self, machine: u8, (key, kind, _): (u32, Kind, u32)) -> u64 {
         let token = self.judge.asked.len() as u64;
         let value = token as u32 + 1;
         let (start, at) = (self.now, (machine, self.machine(machine).start));
@@ -1034,7 +1017,7 @@ impl<'a> World<'a> {
         if self.machine(machine).host.is_some() || self.machine(machine).how == How::Outside {
             return Ok(());
         }
-        if self.machine(machine).older.is_some_and(|older| !self.others_saw(machine, older).all(|saw| saw)) {
+        if !self.may_start(machine) {
             // (meanwhile the others have gone on, and have seen nothing of it since: nobody could notify it)
             self.replace(machine);
         }
@@ -1080,10 +1063,7 @@ impl<'a> World<'a> {
                 self.turn_soon(peer);
             }
         }
-        if self.machine(machine).older.is_some() {
-            let start = self.machine(machine).start;
-            self.after(NOTICED, Event::Check(machine, start));
-        }
+        self.look_after(machine);
         Ok(())
     }
 
@@ -1101,6 +1081,7 @@ impl<'a> World<'a> {
         it.is_busy = false;
         it.turn = u64::MAX;
         it.disk.crash(&mut random, done);
+        it.older.stop();
         let has_lied = it.disk.take_lied();
         it.has_lied |= has_lied;
         self.seen.lies += u64::from(has_lied);
@@ -1125,18 +1106,18 @@ impl<'a> World<'a> {
     /// It is gone for good, with its disk.
     pub(super) fn take_out(&mut self, machine: u8) {
         let keeps = self.keeps;
-        if keeps && self.machine(machine).older.is_none() {
+        if keeps && self.machine(machine).older.is.is_none() {
             let content = self.machine(machine).disk.whole();
             self.gone.push((machine, content));
         }
         let it = self.machine(machine);
         it.disk = Disk::new(keeps);
         it.before += 1;
-        (it.older, it.copy, it.crash_in_change, it.has_lied) = (None, None, None, false);
+        (it.older, it.crash_in_change, it.has_lied) = (Older::default(), None, false);
     }
 
     /// Another machine takes its number.
-    fn replace(&mut self, machine: u8) {
+    pub(super) fn replace(&mut self, machine: u8) {
         self.take_out(machine);
         self.machine(machine).how = How::Joins;
         self.seen.replaced += 1;
@@ -1147,10 +1128,10 @@ impl<'a> World<'a> {
     }
 
     /// Whether one more machine may be lost for good: all others have what they sent, and are in the cluster.
-    fn may_lose(&self, machine: u8) -> bool {
+    pub(super) fn may_lose(&self, machine: u8) -> bool {
         let is_in = |it: &Machine| {
             let generation = it.host.as_ref().map_or(0, |host| host.status().generation);
-            (generation > 0 || it.host.is_none()) && it.older.is_none() && (it.how != How::Joins || generation > 0)
+            (generation > 0 || it.host.is_none()) && it.older.is.is_none() && (it.how != How::Joins || generation > 0)
         };
         let size = self.operator.size;
         let others = (0..size).zip(&self.machines).filter(|(number, _)| *number != machine);
@@ -1208,18 +1189,7 @@ impl<'a> World<'a> {
                 self.replace(machine);
                 self.after(lasts, Event::Again(machine));
             }
-            What::Older => {
-                let now = self.now;
-                let it = self.machine(machine);
-                let state = it.host.as_ref().map(|host| (host.status().generation, host.status().entries));
-                // (a host that stands still since it was started doesn't know yet what its disk has)
-                if let (Some((generation, entries)), false) = (state, it.is_busy || it.paused > now) {
-                    it.copy = Some((it.disk.content().clone(), generation, entries));
-                    self.after(OLDER, Event::Back(machine));
-                } else {
-                    self.unhealed -= 1;
-                }
-            }
+            What::Older(age) => self.begin_older(machine, age),
             What::Lie if self.machine(machine).host.is_some() => {
                 self.machine(machine).disk.begin_lie();
                 self.after(lasts, Event::Fail(machine));
@@ -1228,46 +1198,6 @@ impl<'a> World<'a> {
             _ => self.unhealed -= 1,
         }
         Ok(())
-    }
-
-    /// A machine comes back with the older copy of its disk, where all others know that it is one.
-    fn come_back(&mut self, machine: u8) -> Result<(), Failure> {
-        self.unhealed -= 1;
-        let Some((content, generation, entries)) = self.machine(machine).copy.take() else { return Ok(()) };
-        let all_know = self.is_known(machine, (generation, entries));
-        let is_up = self.machine(machine).host.is_some() && self.machine(machine).how == How::Again;
-        if generation == 0 || !all_know || !is_up || !self.may_lose(machine) || self.plan.lost > 0 {
-            return Ok(());
-        }
-        self.stop(machine, None);
-        if self.keeps {
-            // (what it had is what it sent)
-            let newest = self.machine(machine).disk.whole();
-            self.gone.push((machine, newest));
-        }
-        self.machine(machine).disk.replace(content);
-        self.machine(machine).older = Some((generation, entries));
-        self.after(5 * S, Event::Start(machine));
-        Ok(())
-    }
-
-    /// Whether all others know, and can say to the machine, that it has had more than so many entries of this
-    /// generation.
-    fn is_known(&self, machine: u8, older: (u32, u32)) -> bool {
-        self.others_saw(machine, older).all(|saw| saw)
-            && self.cuts.iter().flatten().all(|count| *count == 0)
-            && self.machines.iter().all(|it| it.paused <= self.now)
-    }
-
-    /// Of each other machine whether it has seen that this one has had more than so many entries of this generation.
-    fn others_saw(&self, machine: u8, (generation, entries): (u32, u32)) -> impl Iterator<Item = bool> {
-        let others = (0..self.operator.size).zip(&self.machines).filter(move |(number, _)| *number != machine);
-        others.map(move |(_, it)| {
-            it.host.as_ref().is_some_and(|host| {
-                let (there, seen) = (host.status().generation, host.seen_of(machine));
-                (there == generation && seen > entries) || (there > generation && seen > 0)
-            })
-        })
     }
 
     fn cut(&mut self, (one, other): (u8, u8), is_reported: bool) {
