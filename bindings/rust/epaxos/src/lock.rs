@@ -1,7 +1,8 @@
 //! A file that one program, or one thread, has at a time.
 #![forbid(unsafe_code)]
 
-use std::fs::{File, OpenOptions, TryLockError};
+use crate::parts::files::private;
+use std::fs::{File, TryLockError};
 use std::path::Path;
 
 /// A lock that is held.
@@ -11,7 +12,7 @@ pub(crate) struct Lock(File);
 impl Lock {
     /// Takes it, where nobody has it. The file is made where it isn't there.
     pub(crate) fn take(path: &Path) -> Result<Lock, TryLockError> {
-        let file = OpenOptions::new().write(true).create(true).truncate(false).open(path);
+        let file = private().truncate(false).open(path);
         let file = file.map_err(TryLockError::Error)?;
         file.try_lock()?;
         Ok(Lock(file))

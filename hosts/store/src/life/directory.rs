@@ -2,12 +2,12 @@
 use crate::life::directory_fault::DirectoryFault;
 use crate::life::identities;
 use crate::opening::Opening;
-use crate::planning::{first, newest};
+use crate::planning::{first, left_in, newest};
 use epaxos::host::Stored;
 use epaxos::parts::files::{self, unusable};
 use epaxos::parts::folder::{look, reference};
 use epaxos::parts::read_folder::ReadFolder;
-use std::fs::{self, File, OpenOptions, TryLockError};
+use std::fs::{self, File, TryLockError};
 use std::io::{self, ErrorKind};
 use std::path::{Path, PathBuf};
 use std::thread;
@@ -17,6 +17,8 @@ use std::time::{Duration, Instant};
 const PATIENCE: Duration = Duration::from_secs(10);
 /// The file that is locked. (Stores that had a node of their own kept its messages in it.)
 const LOCKED: &str = "node-errors";
+/// Marks a generation that the replica has left.
+const MARK: &str = "left";
 /// Marks the folder of a machine that has never acted, and waits until a generation names it.
 const JOINING: &str = "joining";
 /// An opening that a start goes on by.
@@ -33,7 +35,7 @@ impl Directory {
     /// Opens or creates the folder.
     pub fn open(path: &Path) -> Result<Directory, DirectoryFault> {
         files::create(path).map_err(unusable(path))?;
-        let locked = OpenOptions::new().write(true).create(true).truncate(false).open(path.join(LOCKED));
+        let locked = files::private().truncate(false).open(path.join(LOCKED));
         let locked = locked.map_err(unusable(path))?;
         lock(&locked, path)?;
         let directory = Directory { path: path.to_path_buf(), _locked: locked };
@@ -119,6 +121,13 @@ impl Directory {
         if !self.has_log() {
             return Err(DirectoryFault::Lost(self.generations()));
         }
+        for generation in self.generations_with(MARK) {
+            let path = self.folder().folder_of(generation).join(MARK);
+            let mark = fs::read(&path).map_err(unusable(&path))?;
+            if left_in(&mark, generation) == u32::MAX {
+                return Err(DirectoryFault::Mark(path));
+            }
+        }
         let receipts = self.path.join("receipts");
         if receipts.is_dir() { Ok(()) } else { Err(DirectoryFault::ReceiptsLost(receipts)) }
     }
@@ -195,13 +204,16 @@ impl Directory {
     /// The newest generation that is here, and how many replicas it has; none where there is none.
     pub fn newest_size(&self) -> Result<Option<(u32, u8)>, DirectoryFault> {
         let Some(newest) = self.newest() else { return Ok(None) };
-        let path = self.opening(newest);
-        if path.exists() {
-            let opening = Opening::read_front_of(&path).map_err(unusable(&path))?;
-            return Ok(Some((opening.generation, opening.replicas)));
+        if let Ok(reference) = reference(&self.folder(), newest) {
+            return Ok(Some((newest, reference.cluster().replicas())));
         }
-        let reference = reference(&self.folder(), newest).map_err(DirectoryFault::Generations)?;
-        Ok(Some((newest, reference.cluster().replicas())))
+        let path = self.opening(newest);
+        match Opening::read_front_of(&path) {
+            Ok(opening) => Ok(Some((opening.generation, opening.replicas))),
+            // (the core says what isn't right with it)
+            Err(error) if matches!(error.kind(), ErrorKind::InvalidData | ErrorKind::NotFound) => Ok(None),
+            Err(error) => Err(unusable(&path)(error).into()),
+        }
     }
 
     /// Whether the opening of a generation is read from its file.
@@ -231,6 +243,7 @@ fn lock(file: &File, path: &Path) -> Result<(), DirectoryFault> {
 #[cfg(test)]
 mod tests {
     use super::*;
+    use std::os::unix::fs::PermissionsExt;
 
     fn at(name: &str) -> PathBuf {
         std::env::temp_dir().join(format!("store-directory-{name}-{}", std::process::id()))
@@ -260,10 +273,42 @@ mod tests {
         directory.check_entries(1, 5, 5).unwrap();
         let forgotten = directory.check_entries(1, 4, 5).unwrap_err();
         assert!(matches!(forgotten, DirectoryFault::Forgotten { generation: 1, entries: 4, reported: 5 }));
+        let mark = directory.generations().join("1/left");
+        fs::write(&mark, "2").unwrap();
+        directory.check_files().unwrap();
+        fs::write(&mark, "2\0").unwrap();
+        assert!(matches!(directory.check_files(), Err(DirectoryFault::Mark(it)) if it == mark));
+        fs::remove_file(&mark).unwrap();
         fs::remove_file(directory.log(1)).unwrap();
         let lost = directory.check_files().unwrap_err();
         assert!(lost.is_lasting() && matches!(lost, DirectoryFault::Lost(it) if it == directory.generations()));
         fs::remove_dir_all(top).unwrap();
+    }
+
+    #[test]
+    fn an_opening_that_is_emptied_is_judged_by_the_core() {
+        let path = at("emptied");
+        let directory = Directory::open(&path).unwrap();
+        let folder = directory.generations().join("2");
+        fs::create_dir_all(&folder).unwrap();
+        fs::write(folder.join("opening"), "").unwrap();
+        assert!(directory.newest_size().unwrap().is_none());
+        let reference = epaxos::Reference::new(epaxos::Cluster::Five, 2, 43, [7; 32]).unwrap();
+        fs::write(folder.join("reference"), reference.bytes()).unwrap();
+        assert_eq!(directory.newest_size().unwrap(), Some((2, 5)));
+        fs::remove_dir_all(path).unwrap();
+    }
+
+    #[test]
+    fn nobody_else_may_look_into_a_folder() {
+        let path = at("private");
+        let directory = Directory::open(&path).unwrap();
+        directory.prepare().unwrap();
+        directory.begin_joining().unwrap();
+        let mode = |path: PathBuf| fs::metadata(path).unwrap().permissions().mode() & 0o777;
+        assert_eq!([path.clone(), directory.generations()].map(mode), [0o700; 2]);
+        assert_eq!([LOCKED, JOINING].map(|name| mode(path.join(name))), [0o600; 2]);
+        fs::remove_dir_all(path).unwrap();
     }
 
     #[test]

@@ -16,6 +16,8 @@ pub enum DirectoryFault {
     Old(PathBuf),
     /// A file was lost, without which the replica doesn't know what it promised.
     Lost(PathBuf),
+    /// What says which later generation the replica has begun is damaged: it may be any.
+    Mark(PathBuf),
     /// The receipts of what clients were answered were lost.
     ReceiptsLost(PathBuf),
     /// A replica is to be begun where there is one.
@@ -59,6 +61,9 @@ impl fmt::Display for DirectoryFault {
                 path.display()
             ),
             DirectoryFault::Lost(path) => write!(f, "{} was lost. {NEVER}", path.display()),
+            DirectoryFault::Mark(path) => {
+                write!(f, "{} is damaged: it names no later generation. {NEVER}", path.display())
+            }
             DirectoryFault::ReceiptsLost(path) => write!(
                 f,
                 "{} was lost: what clients were told can't be audited, nor compared with the log",

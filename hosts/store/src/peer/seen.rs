@@ -1,7 +1,9 @@
 //! The file of what was seen of the other replicas.
 use epaxos::host::Host;
+use epaxos::parts::files::private;
 use epaxos::parts::place::MOST_REPLICAS;
 use std::fs;
+use std::io::Write;
 use std::path::{Path, PathBuf};
 
 const NAME: &str = "seen";
@@ -34,7 +36,8 @@ impl Seen {
         }
         let words: Vec<String> = numbers.iter().map(u32::to_string).collect();
         let new = self.path.with_extension("new");
-        let _ = fs::write(&new, words.join(" ")).and_then(|()| fs::rename(&new, &self.path));
+        let written = private().truncate(true).open(&new).and_then(|mut it| it.write_all(words.join(" ").as_bytes()));
+        let _ = written.and_then(|()| fs::rename(&new, &self.path));
         self.saved = numbers;
     }
 }

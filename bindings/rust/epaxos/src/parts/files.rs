@@ -1,6 +1,7 @@
 //! Files that are as they were before, or whole, after a crash at any moment.
-use std::fs::{self, File};
+use std::fs::{self, DirBuilder, File, OpenOptions};
 use std::io::{self, ErrorKind, Write};
+use std::os::unix::fs::{DirBuilderExt, OpenOptionsExt};
 use std::path::Path;
 
 /// So much is written between two syncs: one of all of a long file would stop those of the log.
@@ -46,7 +47,7 @@ pub fn write_beside(folder: &Path, name: &str, bytes: &[u8]) -> io::Result<()> {
 }
 
 fn fill_beside<T>(folder: &Path, name: &str, fill: impl FnOnce(&mut Paced) -> io::Result<T>) -> io::Result<T> {
-    let mut file = Paced { file: File::create(folder.join(format!("{name}.new")))?, unsynced: 0 };
+    let mut file = Paced { file: private().truncate(true).open(folder.join(format!("{name}.new")))?, unsynced: 0 };
     let filled = fill(&mut file)?;
     file.file.sync_all()?;
     Ok(filled)
@@ -63,13 +64,25 @@ pub fn rename_in(folder: &Path, name: &str) -> io::Result<()> {
     fs::rename(folder.join(format!("{name}.new")), folder.join(name))
 }
 
+/// How a file is opened that is written, and made where it isn't there: nobody else may read it.
+pub fn private() -> OpenOptions {
+    let mut options = OpenOptions::new();
+    options.write(true).create(true).mode(0o600);
+    options
+}
+
+/// Makes a folder, in which nobody else may look.
+pub fn create_dir(path: &Path) -> io::Result<()> {
+    DirBuilder::new().mode(0o700).create(path)
+}
+
 /// Makes a folder, where it isn't there, and those above it; each is on the disk before anything lies in it. (Of one
 /// that is there nobody knows whether its name outlasts a crash.)
 pub fn create(path: &Path) -> io::Result<()> {
     let above = path.parent().filter(|above| !above.as_os_str().is_empty()).unwrap_or(Path::new("."));
-    let made = match fs::create_dir(path) {
+    let made = match create_dir(path) {
         Err(error) if error.kind() == ErrorKind::NotFound && above != path => {
-            create(above).and_then(|()| fs::create_dir(path))
+            create(above).and_then(|()| create_dir(path))
         }
         Err(error) if error.kind() == ErrorKind::AlreadyExists && path.is_dir() => Ok(()),
         made => made,
@@ -90,6 +103,7 @@ pub fn unusable(path: &Path) -> impl Fn(io::Error) -> io::Error {
 #[cfg(test)]
 mod tests {
     use super::*;
+    use std::os::unix::fs::PermissionsExt;
 
     #[test]
     fn folders_are_made_where_they_are_not() {
@@ -97,6 +111,9 @@ mod tests {
         let path = top.join("in/another");
         (0..2).for_each(|_| create(&path).unwrap());
         assert!(path.is_dir());
+        write(&path, "log", b"").unwrap();
+        let mode = |path: &Path| fs::metadata(path).unwrap().permissions().mode() & 0o777;
+        assert_eq!([&top, &path, &path.join("log")].map(|it| mode(it)), [0o700, 0o700, 0o600]);
         fs::write(path.join("file"), "").unwrap();
         for (path, kind) in
             [(path.join("file"), ErrorKind::AlreadyExists), (path.join("file/it"), ErrorKind::NotADirectory)]

@@ -1,7 +1,8 @@
 //! The file of receipts: what clients were answered, for `epaxos collect`.
+use crate::parts::files::private;
 use crate::parts::receipts_fault::ReceiptsFault;
 use crate::{Fields, LONGEST_VALUE, MOST_TOLD, Receipt};
-use std::fs::{File, OpenOptions};
+use std::fs::File;
 use std::io::{self, Read, Write};
 use std::path::{Path, PathBuf};
 
@@ -46,7 +47,7 @@ impl Receipts {
     /// bytes that are no receipts are an error. Of clients' numbers those count of which `is_of` says so.
     pub fn open(path: &Path, is_of: IsOf) -> Result<Receipts, ReceiptsFault> {
         let failed = |error: io::Error| ReceiptsFault::Unusable(path.to_path_buf(), error);
-        let mut file = OpenOptions::new().read(true).append(true).create(true).open(path).map_err(failed)?;
+        let mut file = private().read(true).append(true).open(path).map_err(failed)?;
         let mut bytes = Vec::new();
         file.read_to_end(&mut bytes).map_err(failed)?;
         let (whole, named) = measure(&bytes, is_of);

@@ -3,7 +3,7 @@ use crate::Checkpoint;
 use crate::host::{Act, Identity, Name, Span, Stored};
 use crate::lock::Lock;
 use crate::log_file::named;
-use crate::parts::files::{create, fill, move_in, rename_in, sync, unusable, write, write_beside};
+use crate::parts::files::{create, create_dir, fill, move_in, rename_in, sync, unusable, write, write_beside};
 use crate::parts::identity::{by_chance, digits, identity};
 use crate::parts::read_folder::{ReadFolder, part};
 use crate::parts::receipts::Receipts;
@@ -136,7 +136,7 @@ impl Folder {
         let folder = self.files.folder_of(generation);
         let mut made = self.made.lock().unwrap_or_else(PoisonError::into_inner);
         if !made.contains(&generation) {
-            match fs::create_dir(&folder) {
+            match create_dir(&folder) {
                 Err(error) if error.kind() != ErrorKind::AlreadyExists => return Err(named(&folder, &error)),
                 _ => sync(self.files.path()).map_err(unusable(self.files.path()))?,
             }
@@ -172,14 +172,11 @@ impl Folder {
         for generation in self.generations()?.into_iter().filter(|generation| *generation < below) {
             let folder = self.files.folder_of(generation);
             for place in NAMES.map(|name| folder.join(name.letters())) {
-                match fs::remove_file(&place) {
-                    Err(error) if error.kind() != ErrorKind::NotFound => return Err(named(&place, &error)),
-                    _ => {}
-                }
+                gone(fs::remove_file(&place)).map_err(|error| named(&place, &error))?;
             }
             let mut made = self.made.lock().unwrap_or_else(PoisonError::into_inner);
             made.remove(&generation);
-            fs::remove_dir_all(&folder).map_err(|error| named(&folder, &error))?;
+            gone(fs::remove_dir_all(&folder)).map_err(|error| named(&folder, &error))?;
         }
         sync(self.files.path()).map_err(unusable(self.files.path()))
     }
@@ -238,6 +235,11 @@ impl Disk for Folder {
     }
 }
 
+/// What isn't there any more, as another thread has removed it, is gone too.
+fn gone(removed: io::Result<()>) -> io::Result<()> {
+    removed.or_else(|error| if error.kind() == ErrorKind::NotFound { Ok(()) } else { Err(error) })
+}
+
 /// Whether the log of this generation gets its place by it.
 fn is_log(act: &Act, of: u32) -> bool {
     matches!(act, Act::Put { generation, name: Name::Log, .. } if *generation == of)
@@ -246,4 +248,27 @@ fn is_log(act: &Act, of: u32) -> bool {
 /// Opens a file to append to it.
 fn open_to_append(path: &Path) -> io::Result<File> {
     OpenOptions::new().append(true).open(path).map_err(|error| named(path, &error))
+}
+
+#[cfg(test)]
+mod tests {
+    use super::*;
+    use std::thread;
+
+    #[test]
+    fn what_two_threads_drop_at_once_is_gone() {
+        let path = std::env::temp_dir().join(format!("epaxos-dropped-{}", std::process::id()));
+        let folder = Folder::open(&path).unwrap();
+        for generation in 1..200 {
+            folder.make(generation).unwrap();
+            write(&path.join(generation.to_string()), Name::Left.letters(), b"200").unwrap();
+        }
+        let dropping = |mut folder: Folder| thread::spawn(move || folder.drop_below(200));
+        for dropped in [dropping(folder.clone()), dropping(folder.clone())] {
+            dropped.join().unwrap().unwrap();
+        }
+        assert!(folder.generations().unwrap().is_empty());
+        drop(folder);
+        fs::remove_dir_all(&path).unwrap();
+    }
 }
