@@ -27,6 +27,7 @@ impl From<ChangeFault> for ManageFault {
 fn hint(fault: &ChangeFault) -> &'static str {
     match fault {
         ChangeFault::Reached(_) => ", or add FORCE. A replaced machine must never come back",
+        ChangeFault::Coming(..) => ", or add FORCE",
         ChangeFault::NotASize => ": by its number, identity and address",
         ChangeFault::NotWaiting(..) => {
             ": start it with --join, and copy the identity that it prints (EPAXOS MEMBERS lists the machines that wait)"

@@ -57,6 +57,8 @@ pub enum ChangeFault {
     ThisOne,
     /// The replica that is to be replaced is reached.
     Reached(u8),
+    /// The machine that this generation names as the replica is there, and about to come in.
+    Coming(u8, Identity),
     /// There can't be so many replicas, or the new ones aren't those that are named.
     NotASize,
     /// No machine of this identity waits to be let in under this number.
@@ -240,6 +242,10 @@ fn judge(change: &Change, next: &Members, machines: &impl Machines) -> Result<()
         if !change.is_forced && machines.is_reached(*replica) {
             return Err(ChangeFault::Reached(*replica));
         }
+        let coming = known.filter(|known| !change.is_forced && machines.is_waiting(*replica, known));
+        if let Some(coming) = coming {
+            return Err(ChangeFault::Coming(*replica, coming));
+        }
         if !machines.is_waiting(*replica, &identity) {
             return Err(ChangeFault::NotWaiting(*replica, identity));
         }
@@ -285,6 +291,12 @@ impl fmt::Display for ChangeFault {
             ChangeFault::NoReplica(replica) => write!(f, "there is no replica {replica}"),
             ChangeFault::ThisOne => f.write_str("this is that replica, and it runs: ask another one"),
             ChangeFault::Reached(replica) => write!(f, "replica {replica} is reachable: stop it before you replace it"),
+            ChangeFault::Coming(replica, identity) => write!(
+                f,
+                "the machine with identity {} was let in as replica {replica} before, and is about to come: wait for \
+                 it, or stop it",
+                digits(identity)
+            ),
             ChangeFault::NotASize => f.write_str("3, 5 or 7 replicas are possible, and each new one has to be named"),
             ChangeFault::NotWaiting(replica, identity) => {
                 write!(f, "no machine with identity {} waits to join as replica {replica}", digits(identity))
@@ -364,6 +376,13 @@ mod tests {
         machines.named = wishes.next(&machines);
         assert_eq!(wishes.fulfil(6, &machines.named), [("a", Ok(()))]);
         assert_eq!(wishes.change(replace(2, 9, false), &machines), Ok(None));
+        // Another machine for the same number is refused while the one that was let in comes.
+        let mut both = three(&[1], &[(2, [8; 16]), (2, [9; 16])]);
+        (both.known[2], both.named) = (Some([9; 16]), machines.named.clone());
+        assert_eq!(wishes.change(replace(2, 8, false), &both), Err(ChangeFault::Coming(2, [9; 16])));
+        assert!(matches!(wishes.change(replace(2, 8, true), &both), Ok(Some(_))));
+        both.waiting.remove(1);
+        assert!(matches!(wishes.change(replace(2, 8, false), &both), Ok(Some(_))));
         // Who is overruled is answered so.
         wishes.ask(6, Change { size: Some(5), ..Change::default() }, "b");
         assert!(wishes.fulfil(8, &machines.named).is_empty());
