@@ -69,9 +69,10 @@ pub fn run(cluster: &Cluster, options: &Options) -> Result<Vec<String>, String> 
             faults.push(format!("{recovered} recoveries were begun of replicas that were only busy"));
         }
     }
-    let best = rates.iter().fold(0.0, |best: f64, rate| best.max(*rate));
     let least = costs.iter().fold(f64::MAX, |least, cost| least.min(*cost));
+    let mut best: f64 = 0.0;
     for ((clients, at_once), (rate, cost)) in LEVELS.iter().zip(rates.iter().zip(&costs)) {
+        best = best.max(*rate);
         // (one command a system call isn't as fast as many)
         if *at_once > 1 && *rate < best * options.least_parts as f64 / 100.0 {
             faults.push(format!(
