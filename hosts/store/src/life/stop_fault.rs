@@ -45,8 +45,9 @@ impl fmt::Display for StopFault {
             ),
             StopFault::Host(HostFault::Disowned { generation, instance }) => write!(
                 f,
-                "generation {generation} has done what this replica proposed as {instance}, and its log has no such proposal: \
-                 the folder is an older copy. This replica must not come back with it: it has forgotten what it promised"
+                "generation {generation} has done what this replica proposed as {instance}, and its log has no such \
+                 proposal: the folder is an older copy. This replica must not come back with it: it has forgotten \
+                 what it promised"
             ),
             StopFault::Host(HostFault::Left(generation)) => {
                 write!(f, "from generation {generation} on this replica takes part no more")
