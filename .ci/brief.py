@@ -36,8 +36,8 @@ def counted(well):
 
 
 def build():
-    """Builds the programs and the library, where the kit is there."""
-    return counted([store.is_well([f"{TOP}/tools/unproved", "--quick"])])
+    """Builds the programs and the library, where the kit is there. (Rows give the program that most of them run some time.)"""
+    return counted([store.is_well([f"{TOP}/tools/unproved", "--quick", "--but", "ep_main"])])
 
 
 def is_built(what):
