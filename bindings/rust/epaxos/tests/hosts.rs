@@ -274,6 +274,21 @@ fn who_lags_goes_through_the_logs_of_a_peer() {
     done(&mut net, 120..121);
 }
 
+/// Replicas that change the generation together write what it opens with in turn, one at each.
+#[test]
+fn checkpoints_are_written_in_turn() {
+    let settings = Settings { numbers: 20, checkpoint: 1, kept: u32::MAX, ..Settings::new(Cluster::Three, 0) };
+    let mut net = Net { writes: true, ..Net::begin(&settings) };
+    for value in 0..200 {
+        assert!(matches!(net.ask(OwnedCommand::Put { key: vec![1], value: vec![value; 100] }), Told::Done(_)));
+    }
+    let newest = net.hosts[0].status().generation;
+    let has = |me: usize, generation| net.disks[me].read(generation, Name::Opening).unwrap().is_some();
+    let who = |generation| (0..3).filter(|me| has(*me, generation)).collect::<Vec<_>>();
+    assert!(newest >= 8, "{newest}");
+    assert!((2..newest).all(|generation| who(generation) == [(generation as usize - 1) % 3]));
+}
+
 /// The files of this replica in tests/vectors/folders.txt, as a disk that has them. Lines that are indented further go
 /// on with the one before.
 fn older(replica: u8) -> MemoryDisk {

@@ -45,7 +45,7 @@ impl Files {
     /// one. Replicas take turns, a generation each, so that a majority is always free.
     pub(super) fn is_due(&self, least: u64, Place { replicas, replica }: Place) -> bool {
         let is_own = |(reference, _): &(Reference, Checkpoint)| {
-            reference.generation() as usize % replicas == usize::from(replica)
+            (reference.generation() as usize - 1) % replicas == usize::from(replica)
         };
         self.unwritten.as_ref().is_some_and(is_own) && self.logs() >= self.whole.1.max(least)
     }
