@@ -9,8 +9,8 @@
 //! that finds another value is tried again with that one. Of two commands, or reads, either may be done first, so no
 //! two of them have something of one connection.
 //!
-//! What is asked of several keys at once waits in the queue of each (`transacting.rs`), and what is behind it there
-//! waits for it.
+//! What is asked of several keys at once waits in the queue of each (`transacting.rs`) for its commands, and for the
+//! reads of its own connection; and what is behind it there waits for it.
 use crate::client::actions::Action;
 use crate::client::command_fault::CommandFault;
 use crate::client::replies::ReplyTo;
@@ -95,6 +95,14 @@ impl Key {
     /// How many commands are under way.
     fn commands(&self) -> usize {
         self.flights.iter().filter(|flight| !flight.is_reading).count()
+    }
+
+    /// The transaction that may have the key now: the first that waits, where no command is under way, nor a read of
+    /// its own connection, which was asked before it.
+    fn next_turn(&self) -> Option<Turn> {
+        let Some(Queued::Turn(turn)) = self.waiting.front() else { return None };
+        let is_its = |flight: &Flight| flight.asked.iter().any(|asked| asked.to.connection == turn.connection);
+        (!self.flights.iter().any(|flight| !flight.is_reading || is_its(flight))).then_some(*turn)
     }
 
     fn flight(&mut self, number: u64) -> Option<&mut Flight> {
@@ -393,8 +401,7 @@ impl State {
         if found.held_by.is_some() {
             return None;
         }
-        if let Some(Queued::Turn(turn)) = found.waiting.front().filter(|_| found.commands() == 0) {
-            let turn = *turn;
+        if let Some(turn) = found.next_turn() {
             found.held_by = Some(turn);
             found.waiting.pop_front();
             self.lend(turn);
@@ -726,10 +733,13 @@ pub(crate) mod tests {
         }
 
         fn asked(&self) -> (What, ReplySender) {
-            match self.events.lock().unwrap().recv_timeout(Duration::from_secs(60)).unwrap() {
-                Event::Ask(Ask { what, reply }) => (what, reply),
-                _ => panic!(),
-            }
+            let event = self.events.lock().unwrap().recv_timeout(Duration::from_secs(60));
+            asked_by(event.unwrap())
+        }
+
+        /// All that has come to be asked.
+        pub(crate) fn come(&self) -> Vec<(What, ReplySender)> {
+            self.events.lock().unwrap().try_iter().map(asked_by).collect()
         }
 
         pub(crate) fn is_idle(&self) -> bool {
@@ -753,6 +763,10 @@ pub(crate) mod tests {
             }
             replies
         }
+    }
+
+    fn asked_by(event: Event) -> (What, ReplySender) {
+        if let Event::Ask(Ask { what, reply }) = event { (what, reply) } else { panic!() }
     }
 
     fn part(message: Message) -> (u64, Reply) {

@@ -267,10 +267,15 @@ mod tests {
     use super::*;
     use crate::client::commands::{Asked, understand};
     use crate::client::multi::{Judged, Multi};
+    use crate::client::outbox::{Message, Messages};
+    use crate::core::ask::What;
     use crate::core::keys::tests::{Store, done, set, value};
     use crate::core::stored::Stored;
     use crate::core::transaction::Condition;
+    use crate::map::{Map, execute};
+    use crate::random::Random;
     use epaxos::{Command, Fault, OwnedCommand};
+    use std::collections::BTreeMap;
 
     /// What EXEC does of these lines.
     fn exec(lines: &[&str]) -> Transaction {
@@ -466,5 +471,116 @@ mod tests {
         transact(&store, 2, exec(&many.iter().map(String::as_str).collect::<Vec<_>>()));
         assert_eq!(store.replies(), [(2, Reply::Error(CommandFault::ManyKeys(1_024)))]);
         assert!(store.is_idle());
+    }
+
+    /// What one connection asks of two keys, `n` being its place in the pipeline; what each part of it is replied, and
+    /// what the keys have then.
+    type Kind = (&'static str, fn(&mut [Option<String>; 2], &str) -> Vec<Reply>);
+
+    fn bulk(value: &Option<String>) -> Reply {
+        value.as_deref().map_or(Reply::Nil, Reply::text)
+    }
+
+    fn both(values: &[Option<String>; 2]) -> Vec<Reply> {
+        values.iter().map(bulk).collect()
+    }
+
+    const KINDS: [Kind; 10] = [
+        ("GET x", |keys, _| vec![bulk(&keys[0])]),
+        ("MGET x y", |keys, _| both(keys)),
+        ("SET x n", |keys, n| {
+            keys[0] = Some(n.into());
+            vec![Reply::Simple("OK")]
+        }),
+        ("APPEND x n", |keys, n| {
+            let long = keys[0].take().unwrap_or_default() + n;
+            keys[0] = Some(long.clone());
+            vec![Reply::Integer(long.len() as i64)]
+        }),
+        ("DEL x", |keys, _| vec![Reply::Integer(keys[0].take().is_some().into())]),
+        ("MSET x n y n", |keys, n| {
+            *keys = [Some(n.into()), Some(n.into())];
+            vec![Reply::Simple("OK")]
+        }),
+        ("DEL x y", |keys, _| vec![Reply::Integer(keys.iter_mut().filter_map(Option::take).count() as i64)]),
+        ("COPY x y REPLACE", |keys, _| {
+            let is_there = keys[0].is_some();
+            keys[1] = if is_there { keys[0].clone() } else { keys[1].take() };
+            vec![Reply::Integer(is_there.into())]
+        }),
+        ("EPAXOS TXN GET x GET y", |keys, _| vec![array(&[Reply::Integer(1), array(&both(keys))])]),
+        ("EPAXOS TXN GET x SET x n DEL y", |keys, n| {
+            let before = bulk(&keys[0]);
+            *keys = [Some(n.into()), None];
+            vec![array(&[Reply::Integer(1), array(&[before])])]
+        }),
+    ];
+
+    /// Has a connection's line done, under this number: how many parts its reply has.
+    fn ask(store: &Store, connection: u64, command: u64, line: &str) -> usize {
+        let to = |part| ReplyTo::part(store.outbox.clone(), connection, command, part);
+        match understand(line.split(' ').map(|word| word.as_bytes().to_vec()).collect()) {
+            Asked::Keys(_, actions) => {
+                let all = actions.into_iter().enumerate();
+                all.map(|(part, (key, action))| store.keys.ask(store.keys.id(), key, action, to(part))).count()
+            }
+            Asked::Joint(combine, steps) => {
+                store.keys.transact(store.keys.id(), Transaction::one(combine, steps), to(0));
+                1
+            }
+            Asked::Txn(transaction) => {
+                store.keys.transact(store.keys.id(), transaction, to(0));
+                1
+            }
+            _ => panic!("{line}"),
+        }
+    }
+
+    /// Does what is under way, one at a time, in any order.
+    fn settle(store: &Store, map: &mut Map, random: &mut Random) {
+        let mut under_way = Vec::new();
+        loop {
+            under_way.extend(store.come());
+            if under_way.is_empty() {
+                return;
+            }
+            let (what, reply) = under_way.swap_remove(random.below(under_way.len() as u64) as usize);
+            let outcome = match what {
+                What::Get(key) => Outcome::Value(map.get(&key).cloned()),
+                What::Propose(command) if reply.begun().begin() => done(execute(map, &command)),
+                _ => panic!(),
+            };
+            reply.send(outcome);
+        }
+    }
+
+    #[test]
+    fn a_pipeline_is_done_in_its_order() {
+        let (store, mut map, mut random) = (Store::new(), Map::new(), Random::from_seed(1));
+        let (mut keys, mut messages) = ([None, None], Messages::new());
+        let orders = (0..50).flat_map(|_| KINDS.iter().flat_map(|first| KINDS.iter().map(move |next| [*first, *next])));
+        for (round, order) in orders.enumerate() {
+            for others in [false, true] {
+                // (where another connection writes before it, the pipeline does so too, so that what it finds is known)
+                let before = [KINDS[2]].into_iter().filter(|_| others);
+                let (mut expected, mut lines) = (BTreeMap::new(), Vec::new());
+                others.then(|| ask(&store, 2, 0, "SET x other"));
+                for (command, (line, kind)) in (0..).zip(before.chain(order)) {
+                    let n = format!("{round}-{command}");
+                    lines.push(line.replace('n', &n));
+                    let replies = kind(&mut keys, &n);
+                    assert_eq!(ask(&store, 1, command, &lines[lines.len() - 1]), replies.len());
+                    expected.extend((0..).zip(replies).map(|(part, reply)| ((1, command, part), reply)));
+                }
+                expected.extend(others.then_some(((2, 0, 0), Reply::Simple("OK"))));
+                settle(&store, &mut map, &mut random);
+                store.outbox.take(&mut messages);
+                let part = |(connection, message)| match message {
+                    Message::Part(command, part, reply) => ((connection, command, part), reply),
+                    _ => panic!(),
+                };
+                assert_eq!(messages.drain(..).map(part).collect::<BTreeMap<_, _>>(), expected, "{lines:?}");
+            }
+        }
     }
 }

@@ -16,6 +16,7 @@ use store::core::outcome::Outcome;
 use store::core::stored::deadline_in;
 use store::map::{Map, execute};
 use store::ops::metrics::Metrics;
+use store::random::Random;
 use testing::client::Client;
 
 const PATIENCE: Duration = Duration::from_secs(300);
@@ -82,15 +83,16 @@ impl Drop for Memory {
     }
 }
 
-/// Takes what has come, waits, and answers all of it.
+/// Takes what has come, waits, and answers all of it, in any order.
 fn drive(asked: &Receiver<Event>, takes: Duration, turns: &AtomicU64) {
-    let mut map = Map::new();
+    let (mut map, mut random) = (Map::new(), Random::from_seed(1));
     while let Ok(first) = asked.recv() {
         let mut events = vec![first];
         events.extend(asked.try_iter());
         thread::sleep(takes);
         turns.fetch_add(1, Ordering::Relaxed);
-        for event in events {
+        while !events.is_empty() {
+            let event = events.swap_remove(random.below(events.len() as u64) as usize);
             let Event::Ask(Ask { what, reply }) = event else { continue };
             let is_given_up = matches!(what, What::Propose(_)) && !reply.begun().begin();
             reply.send(match what {
