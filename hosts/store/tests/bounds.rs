@@ -1,7 +1,7 @@
 //! Who is let in by a password, and what clients can't take up.
 mod common;
 use common::memory::Memory;
-use common::{ask, wait};
+use common::{ask, field, info, wait};
 use std::collections::VecDeque;
 use std::io::{Read, Write};
 use std::net::TcpStream;
@@ -95,6 +95,45 @@ fn replies_that_nobody_takes_are_bounded() {
     drop(greedy);
     let is_answered = || memory.client().ask(&[b"GET", b"x"]).is_ok_and(|reply| matches!(reply, Reply::Bulk(Some(_))));
     wait("room", is_answered);
+}
+
+/// So many clients that ask for much and never read, and so many others.
+const SLOW: [usize; 2] = [8, 64];
+const GOOD: usize = 32;
+
+#[test]
+fn who_takes_no_replies_shuts_nobody_out() {
+    for slow in SLOW {
+        let most = 64 << 20;
+        let memory = Memory::start_with("slow-readers", Duration::ZERO, |it| it.memory = memory::Memory::new(most));
+        let mut client = memory.client();
+        assert_eq!(client.ask(&[b"SET", b"x", &[b'v'; 60_000]]).unwrap(), ok());
+        let begin = |_| {
+            let mut slow = TcpStream::connect(("127.0.0.1", memory.port)).unwrap();
+            slow.write_all(&b"GET x\r\n".repeat(1_000)).unwrap();
+            slow
+        };
+        let slow: Vec<TcpStream> = (0..slow).map(begin).collect();
+        let number = |name| field(&info(&mut memory.client()), name).parse::<usize>().unwrap();
+        let closed = || number("client_output_buffer_limit_disconnections");
+        let mut good: Vec<Client> = (0..GOOD).map(|_| memory.client()).collect();
+        for round in 0..20 {
+            for (place, client) in good.iter_mut().enumerate() {
+                assert_eq!(ask(client, &format!("SET good-{place} {round}")), ok());
+                let value = Reply::Bulk(Some(round.to_string().into_bytes()));
+                assert_eq!(ask(client, &format!("GET good-{place}")), value);
+                assert_eq!(ask(client, "PING"), Reply::Simple("PONG".into()));
+            }
+            assert!(number("clients_memory") <= most);
+        }
+        // Each has asked for as much as nearly all of the memory, and is closed once it has its part.
+        wait("the slow ones' end", || closed() == slow.len());
+        assert!(number("clients_memory") < most / 16);
+        // Who reads gets all of as much.
+        assert_eq!(client.send(&vec![&[&b"GET"[..], b"x"][..]; 1_000]).ok(), Some(()));
+        (0..1_000).for_each(|_| assert_eq!(client.read().unwrap(), Reply::Bulk(Some(vec![b'v'; 60_000]))));
+        assert_eq!(closed(), slow.len());
+    }
 }
 
 #[test]

@@ -65,6 +65,7 @@ impl Shared {
             ("uptime_in_seconds", self.started.elapsed().as_secs()),
             ("connected_clients", self.connections.count() as u64),
             ("clients_memory", self.memory.used() as u64),
+            ("client_output_buffer_limit_disconnections", self.metrics.slow.get()),
             ("commands_answered", self.metrics.answered.get()),
             ("commands_refused", self.metrics.refused.get()),
             ("takes_part", self.metrics.takes_part.get()),
@@ -207,12 +208,15 @@ impl Clients {
                 session.take_message(message);
                 ready.push(id);
             }
+            if self.shared.memory.is_short() {
+                self.make_room();
+            }
         }
         self.messages = messages;
         if self.next_look <= self.turn.now {
             self.next_look = self.turn.now + LONGEST;
             let now = self.turn.now;
-            self.sessions.retain(|_, session| session.look(now) || session.end());
+            self.sessions.retain(|_, session| session.look(now) || session.end_slow());
             ready = self.sessions.keys().copied().collect();
             self.note_count();
         }
@@ -221,6 +225,20 @@ impl Clients {
         ready.retain(|id| self.tend(*id));
         self.ready = ready;
         self.hand_on();
+    }
+
+    /// Closes connections whose clients take no replies, first those that have most memory, until enough is free.
+    fn make_room(&mut self) {
+        // (who takes some isn't among them; an error comes again)
+        self.sessions.values_mut().for_each(|session| _ = session.send());
+        while self.shared.memory.is_short() {
+            let stuck = self.sessions.iter().filter(|(_, session)| session.is_stuck());
+            let Some((id, session)) = stuck.max_by_key(|(_, session)| session.unsent()) else { return };
+            session.end_slow();
+            let id = *id;
+            self.sessions.remove(&id);
+            self.note_count();
+        }
     }
 
     fn hand_on(&mut self) {

@@ -2,6 +2,12 @@
 use std::sync::Arc;
 use std::sync::atomic::{AtomicUsize, Ordering};
 
+/// One connection may have this part of it;
+const PARTS: usize = 16;
+/// and where more than this of it is used, room is made.
+const SHORT: usize = 3;
+const OF: usize = 4;
+
 /// A bound for all clients.
 pub struct Memory {
     used: AtomicUsize,
@@ -25,6 +31,13 @@ impl Memory {
         share.resize(bytes).then_some(share)
     }
 
+    /// A share of so many bytes, whether or not there is room.
+    pub fn share_anyway(self: &Arc<Memory>, bytes: usize) -> Share {
+        let mut share = self.empty_share();
+        share.count(bytes);
+        share
+    }
+
     /// A share of nothing.
     pub fn empty_share(self: &Arc<Memory>) -> Share {
         Share { memory: self.clone(), bytes: 0 }
@@ -33,9 +46,23 @@ impl Memory {
     pub fn used(&self) -> usize {
         self.used.load(Ordering::Relaxed)
     }
+
+    /// What a connection's commands and replies may take before no more of its commands are taken.
+    pub fn part(&self) -> usize {
+        self.most / PARTS
+    }
+
+    /// Whether it is nearly used up, so that who takes no replies has to make room.
+    pub fn is_short(&self) -> bool {
+        self.used() > self.most / OF * SHORT
+    }
 }
 
 impl Share {
+    pub fn bytes(&self) -> usize {
+        self.bytes
+    }
+
     /// Has it be of so many bytes; false, and as it was, where there is no room for more.
     pub fn resize(&mut self, bytes: usize) -> bool {
         if bytes <= self.bytes {
@@ -81,7 +108,8 @@ mod tests {
         assert!(memory.share(41).is_none());
         let mut second = memory.share(40).unwrap();
         assert!(!second.resize(41) && second.resize(10));
-        assert!(first.resize(90) && !first.resize(91));
+        assert!(memory.part() == 6 && !memory.is_short());
+        assert!(first.resize(90) && !first.resize(91) && memory.is_short());
         second.count(50);
         assert_eq!(memory.used(), 150);
         drop(second);

@@ -16,8 +16,11 @@ use std::time::{Duration, Instant};
 const MOST_UNDER_WAY: usize = 1_024;
 /// Replies wait where their client hasn't taken so many bytes of those before.
 const MOST_UNSENT: usize = 64 << 10;
-/// A client that takes nothing for so long is gone.
+/// A client that takes nothing for so long is gone; one whose replies take more than a connection may have, sooner.
 const WRITE_PATIENCE: Duration = Duration::from_secs(30);
+const SHORT_PATIENCE: Duration = Duration::from_secs(5);
+/// Before the first reply has shown how long they are, so many are under way at most.
+const MOST_AT_FIRST: usize = 64;
 /// After so long it is looked again for a reply that is on its way as its time is over.
 const SOON: Duration = Duration::from_millis(1);
 
@@ -188,12 +191,18 @@ pub struct Replies {
     /// How many bytes were written in all, and what is let go of once so many are sent.
     written: u64,
     held: VecDeque<(u64, OneDue, Option<Share>)>,
+    /// What all that isn't sent takes, words and replies, and what it may take.
+    bytes: usize,
+    most: usize,
+    /// The longest part of a reply until now, as which each is counted that is under way. None: none has come.
+    longest: Option<usize>,
     /// Since when the client takes nothing, if it doesn't.
     stuck: Option<Instant>,
 }
 
 impl Replies {
-    pub fn new(keys: Arc<Keys>, metrics: Arc<Metrics>) -> Replies {
+    /// None yet. So many bytes may be unsent.
+    pub fn new(keys: Arc<Keys>, metrics: Arc<Metrics>, most: usize) -> Replies {
         Replies {
             keys,
             metrics,
@@ -204,13 +213,28 @@ impl Replies {
             sent: 0,
             written: 0,
             held: VecDeque::new(),
+            bytes: 0,
+            most,
+            longest: None,
             stuck: None,
         }
     }
 
     /// Whether there is room for so much more, or nothing is under way.
     pub fn has_room(&self, weight: usize) -> bool {
-        self.under_way == 0 || self.under_way + weight <= MOST_UNDER_WAY
+        let count = self.under_way + weight;
+        self.under_way == 0 || (count <= MOST_UNDER_WAY && self.has_bytes(count))
+    }
+
+    /// Whether so many may be under way, as long as replies are.
+    fn has_bytes(&self, count: usize) -> bool {
+        let longest = self.longest.unwrap_or(self.most / MOST_AT_FIRST);
+        self.bytes.saturating_add(longest.saturating_mul(count)) <= self.most
+    }
+
+    /// What all that isn't sent takes.
+    pub fn bytes(&self) -> usize {
+        self.bytes
     }
 
     /// Whether nothing is under way.
@@ -226,6 +250,7 @@ impl Replies {
     /// A command has begun: its number.
     pub fn begin(&mut self, slot: Slot) -> u64 {
         self.under_way += slot.parts.len();
+        self.bytes += slot.share.as_ref().map_or(0, Share::bytes);
         self.slots.push_back(slot);
         self.first + self.slots.len() as u64 - 1
     }
@@ -235,8 +260,11 @@ impl Replies {
         // (what comes too late is of no use)
         let place = command.checked_sub(self.first).map(|place| place as usize);
         let Some(slot) = place.and_then(|place| self.slots.get_mut(place)) else { return };
+        let bytes = reply.size();
+        self.longest = self.longest.max(Some(bytes));
         if let Some(share) = &mut slot.share {
-            share.count(reply.size());
+            share.count(bytes);
+            self.bytes += bytes;
         }
         if let Some(part) = slot.parts.get_mut(part) {
             *part = Part::Come(reply);
@@ -277,7 +305,9 @@ impl Replies {
             self.sent = 0;
         }
         let sent = self.written - (self.out.len() - self.sent) as u64;
-        while self.held.pop_front_if(|(end, ..)| *end <= sent).is_some() {}
+        while let Some((.., share)) = self.held.pop_front_if(|(end, ..)| *end <= sent) {
+            self.bytes -= share.as_ref().map_or(0, Share::bytes);
+        }
     }
 
     /// Writes what is ready, to the bytes that are to be sent.
@@ -304,13 +334,22 @@ impl Replies {
 
     /// When something is to be done though nothing comes.
     pub fn due(&self) -> Option<Instant> {
-        let stuck = self.stuck.map(|since| since + WRITE_PATIENCE);
-        self.slots.front().map(|slot| slot.deadline).into_iter().chain(stuck).min()
+        self.slots.front().map(|slot| slot.deadline).into_iter().chain(self.lost_from()).min()
+    }
+
+    /// Whether the client takes nothing now.
+    pub fn is_stuck(&self) -> bool {
+        self.stuck.is_some()
     }
 
     /// Whether the client takes nothing any more.
     pub fn is_lost(&self, now: Instant) -> bool {
-        self.stuck.is_some_and(|since| now >= since + WRITE_PATIENCE)
+        self.lost_from().is_some_and(|from| now >= from)
+    }
+
+    fn lost_from(&self) -> Option<Instant> {
+        let patience = if self.has_bytes(self.under_way + 1) { WRITE_PATIENCE } else { SHORT_PATIENCE };
+        self.stuck.map(|since| since + patience)
     }
 
     /// The client of the first command waits no longer, where its time is over.
@@ -361,9 +400,36 @@ mod tests {
     }
 
     #[test]
+    fn what_isnt_sent_is_bounded_by_how_long_replies_are() {
+        let (store, memory, due) = (Store::new(), Memory::new(1 << 30), Arc::<Due>::default());
+        let most = 100 << 10;
+        let mut replies = Replies::new(store.keys.clone(), Arc::default(), most);
+        replies.begin(slot(1, memory.share(0), &due));
+        assert!(replies.has_room(MOST_AT_FIRST - 1) && !replies.has_room(MOST_AT_FIRST));
+        replies.take(0, 0, Reply::Integer(1));
+        assert!(replies.has_room(MOST_UNDER_WAY - 1));
+        // One part is as long as an eighth of what there may be, and as long may be those three that are under way.
+        replies.begin(slot(2, memory.share(0), &due));
+        replies.take(1, 0, Reply::Bulk(vec![b'v'; most / 8 - size_of::<Reply>()]));
+        assert!(replies.has_room(3) && !replies.has_room(4));
+        replies.send(&mut Taking(Vec::new(), usize::MAX)).unwrap();
+        replies.take(1, 1, Reply::Nil);
+        replies.send(&mut Taking(Vec::new(), usize::MAX)).unwrap();
+        assert!(replies.bytes() == 0 && memory.used() == 0 && replies.has_room(8));
+        // Who takes nothing has less time once there is no room.
+        let stuck = |replies: &mut Replies, parts| {
+            let number = replies.begin(slot(parts, memory.share(0), &due));
+            (0..parts).for_each(|part| replies.take(number, part, Reply::Bulk(vec![b'v'; most / 8])));
+            replies.send(&mut Taking(Vec::new(), 10)).unwrap();
+            replies.is_lost(Instant::now() + SHORT_PATIENCE)
+        };
+        assert!(!stuck(&mut replies, 2) && replies.is_stuck() && stuck(&mut replies, 5));
+    }
+
+    #[test]
     fn they_are_sent_in_order_as_far_as_they_are_taken() {
         let (store, memory, due) = (Store::new(), Memory::new(1 << 30), Arc::<Due>::default());
-        let mut replies = Replies::new(store.keys.clone(), Arc::default());
+        let mut replies = Replies::new(store.keys.clone(), Arc::default(), usize::MAX);
         let mut client = Taking(Vec::new(), 100);
         let numbers = [2, 1].map(|parts| replies.begin(slot(parts, memory.share(10), &due)));
         assert!(numbers == [0, 1] && replies.has_room(MOST_UNDER_WAY - 3) && !replies.has_room(MOST_UNDER_WAY - 2));

@@ -20,6 +20,7 @@ use crate::core::stored::{self, Stored};
 use crate::core::transaction::Transaction;
 use crate::core::view::Values;
 use crate::core::watching::{Look, Looked};
+use crate::ops::say::warn;
 use crate::ops::wishes::Manage;
 use crate::timed::read_some;
 use epaxos::MOST_TOLD;
@@ -41,6 +42,8 @@ const WRONG: Duration = Duration::from_millis(200);
 const INFO_PATIENCE: Duration = Duration::from_secs(1);
 /// What a command takes beside its words.
 const OVERHEAD: usize = 256;
+/// A reply that is known at once and as short as that of PING or HELLO is sent though there is no room for it.
+const SHORT: usize = 1_024;
 
 /// What a connection's commands leave for those that follow.
 pub struct Session {
@@ -130,7 +133,7 @@ impl Session {
             is_heard_out: false,
             heard: Instant::now(),
             wait: None,
-            replies: Replies::new(shared.keys.clone(), shared.metrics.clone()),
+            replies: Replies::new(shared.keys.clone(), shared.metrics.clone(), shared.memory.part()),
             looks: 0,
             version: Version::Two,
             name: None,
@@ -200,8 +203,7 @@ impl Session {
 
     /// Reads some of what has come, and has it done.
     pub fn read(&mut self, turn: &mut Turn) {
-        let share = self.share.get_or_insert_with(|| self.shared.memory.empty_share());
-        if !share.resize(self.bytes.len() + CHUNK) {
+        if !self.count_bytes() {
             self.fail(CommandFault::NoMemory);
             self.is_heard_out = true;
             return;
@@ -252,8 +254,13 @@ impl Session {
             self.fail(CommandFault::NoMemory);
             self.is_heard_out = true;
         }
-        let length = self.bytes.len();
-        self.share.as_mut().map(|share| share.resize(length));
+        self.count_bytes();
+    }
+
+    /// Counts what has come and wasn't taken, but for what is read at once: whether there is room for it.
+    fn count_bytes(&mut self) -> bool {
+        let share = self.share.get_or_insert_with(|| self.shared.memory.empty_share());
+        share.resize(self.bytes.len().saturating_sub(CHUNK))
     }
 
     /// Takes the commands that these bytes begin with, as long as any are taken: how many bytes that were.
@@ -310,6 +317,24 @@ impl Session {
     pub fn end(&self) -> bool {
         let _ = self.stream.shutdown(Shutdown::Both);
         false
+    }
+
+    /// What its commands and replies take that aren't sent.
+    pub fn unsent(&self) -> usize {
+        self.replies.bytes()
+    }
+
+    /// Whether its client takes no replies now.
+    pub fn is_stuck(&self) -> bool {
+        self.replies.is_stuck()
+    }
+
+    /// Closes the connection, whose client takes its replies too slowly: it doesn't go on.
+    pub fn end_slow(&self) -> bool {
+        let (id, address, bytes) = (self.id, &self.address, self.unsent());
+        warn(&format!("client {id} at {address} is closed: it takes no replies, and {bytes} bytes wait for it"));
+        self.shared.metrics.slow.add(1);
+        self.end()
     }
 
     /// Takes what has come from elsewhere.
@@ -495,9 +520,11 @@ impl Session {
         ReplyTo::part(self.outbox.clone(), self.id, command, part)
     }
 
-    /// Answers at once. What can't wait to be written isn't sent.
+    /// Answers at once. What is long and can't wait to be written isn't sent.
     fn answer(&mut self, reply: Reply) {
-        let share = self.shared.memory.share(OVERHEAD + reply.size());
+        let (memory, bytes) = (&self.shared.memory, OVERHEAD + reply.size());
+        let is_short = reply.size() <= SHORT;
+        let share = memory.share(bytes).or_else(|| is_short.then(|| memory.share_anyway(bytes)));
         let reply = if share.is_some() { reply } else { Reply::Error(CommandFault::NoMemory) };
         self.begin_for(Combine::One, vec![Part::Come(reply)], self.shared.patience, share);
     }

@@ -71,6 +71,8 @@ pub struct Metrics {
     /// Commands that were answered, and those that were refused or may still be done.
     pub answered: Number,
     pub refused: Number,
+    /// Connections that were closed as their clients took no replies.
+    pub slow: Number,
     pub clients: Number,
     pub generation: Number,
     pub entries: Number,
@@ -113,6 +115,12 @@ impl Metrics {
         for (name, what, kind, number) in [
             ("epaxos_store_commands_answered_total", "Commands that were answered.", "counter", &self.answered),
             ("epaxos_store_commands_refused_total", "Commands that ended by an error.", "counter", &self.refused),
+            (
+                "epaxos_store_slow_clients_closed_total",
+                "Connections that were closed as their clients took no replies.",
+                "counter",
+                &self.slow,
+            ),
             ("epaxos_store_asks_total", "Turns of the host, in each of which it asks the core.", "counter", &self.asks),
             ("epaxos_store_syncs_total", "Syncs of the log.", "counter", &self.syncs),
             (

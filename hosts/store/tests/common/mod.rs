@@ -196,9 +196,7 @@ impl Store {
 
     /// A line of INFO, as the core reports it.
     pub fn info(&self, name: &str) -> String {
-        let text = info(&mut self.client());
-        let line = text.lines().find_map(|line| line.strip_prefix(name)?.strip_prefix(':'));
-        line.unwrap_or_else(|| panic!("no {name} in {text}")).to_string()
+        field(&info(&mut self.client()), name).to_string()
     }
 
     /// The local read of a key.
@@ -233,6 +231,12 @@ pub fn info(client: &mut Client) -> String {
         }
         assert!(start.elapsed() < PATIENCE, "{text}");
     }
+}
+
+/// What INFO says under this name.
+pub fn field<'a>(text: &'a str, name: &str) -> &'a str {
+    let value = text.lines().find_map(|line| line.strip_prefix(name)?.strip_prefix(':'));
+    value.unwrap_or_else(|| panic!("no {name} in {text}"))
 }
 
 pub fn wait(what: &str, is_so: impl Fn() -> bool) {
