@@ -1,5 +1,6 @@
 //! The thread that serves: what clients ask, made into commands of the protocol, and what becomes of them.
 pub mod ask;
+pub mod asks;
 pub mod deadlines;
 pub mod event;
 pub mod expiring;

@@ -18,6 +18,7 @@ use store::client::clients::{self, Shared};
 use store::client::memory::Memory;
 use store::client::password::Password;
 use store::client::replies::Due;
+use store::core::asks::Asks;
 use store::core::event::Event;
 use store::core::expiring::Expiring;
 use store::core::keys::Keys;
@@ -204,9 +205,9 @@ fn start(options: Options, due: Arc<Due>) -> Result<Serving, StoreFault> {
     let for_operators = options.admin.bind().map_err(|error| StoreFault::Admin(options.admin.to_string(), error))?;
     let (sender, events) = sync_channel(WAITING_EVENTS);
     let metrics = Arc::<Metrics>::default();
+    let asks = Asks::new(sender.clone());
     let shared = Shared {
-        events: sender.clone(),
-        keys: Keys::start(sender.clone(), metrics.clone()).map_err(StoreFault::Thread)?,
+        keys: Keys::start(asks.clone(), metrics.clone()).map_err(StoreFault::Thread)?,
         listing: Arc::new(Listing::new(sender.clone(), options.patience)),
         patience: options.patience,
         password: password(options.auth.as_deref())?,
@@ -281,6 +282,7 @@ fn start(options: Options, due: Arc<Due>) -> Result<Serving, StoreFault> {
         seen,
         expiring,
         events,
+        asks,
         own,
         metrics,
         plant,

@@ -7,7 +7,7 @@ use testing::client::{Client, Reply};
 /// So many pipelines of each order, in writes of so many at once; fewer where these take longer than this.
 const PIPELINES: usize = 10_000;
 const AT_ONCE: usize = 100;
-const MOST: Duration = Duration::from_secs(6);
+const MOST: Duration = Duration::from_secs(2);
 
 /// What reads a key, and what writes it behind that with another one.
 const READS: [&str; 2] = ["GET k", "MGET k j"];

@@ -11,7 +11,6 @@ use crate::client::password::Password;
 use crate::client::replies::{Due, ReplyTo};
 use crate::client::resp::{Reply, Version};
 use crate::client::session::{CHUNK, Session};
-use crate::core::event::Event;
 use crate::core::keys::{Keys, Wanted};
 use crate::core::listing::Listing;
 use crate::ops::metrics::Metrics;
@@ -24,7 +23,7 @@ use std::net::{TcpListener, TcpStream};
 use std::os::fd::AsRawFd;
 use std::sync::Arc;
 use std::sync::atomic::{AtomicU64, Ordering};
-use std::sync::mpsc::{Receiver, Sender, SyncSender, channel};
+use std::sync::mpsc::{Receiver, Sender, channel};
 use std::thread;
 use std::time::{Duration, Instant};
 
@@ -41,7 +40,6 @@ const LONGEST: Duration = Duration::from_secs(60);
 
 /// What all connections share.
 pub struct Shared {
-    pub events: SyncSender<Event>,
     pub keys: Arc<Keys>,
     pub listing: Arc<Listing>,
     pub patience: Duration,

@@ -657,7 +657,7 @@ impl Session {
             let to = self.reply_to(command, part);
             let (keys, of) = (self.shared.keys.clone(), key.clone());
             let reply = ReplySender::new(move |outcome| to.send(local(&keys, of, &action, outcome)));
-            self.shared.keys.send(Ask { what: What::Read(key), reply });
+            self.shared.keys.send(self.id, Ask { what: What::Read(key), reply });
         }
     }
 
@@ -674,7 +674,7 @@ impl Session {
                 outcome => Reply::Error(CommandFault::of(outcome)),
             });
         });
-        self.shared.keys.send(Ask { what, reply });
+        self.shared.keys.send(self.id, Ask { what, reply });
     }
 
     fn greet(&mut self, hello: Hello) {

@@ -15,7 +15,9 @@ pub enum Event {
     PeerCame(u8),
     /// A machine of this identity waits to be let in under this number.
     Waits(u8, Identity),
-    /// A client asks.
+    /// Clients have asked something ([`Asks`](crate::core::asks::Asks)).
+    Asked,
+    /// An operator asks, or a thread of this store.
     Ask(Ask),
     /// A thread in the background has done this.
     Worked(Worked),

@@ -16,7 +16,7 @@ use crate::client::command_fault::CommandFault;
 use crate::client::replies::ReplyTo;
 use crate::client::resp::Reply;
 use crate::core::ask::{Ask, What};
-use crate::core::event::Event;
+use crate::core::asks::Asks;
 use crate::core::outcome::Outcome;
 use crate::core::reply_sender::ReplySender;
 use crate::core::stored::{self, Stored};
@@ -28,7 +28,7 @@ use epaxos::{OwnedAnswer, OwnedCommand};
 use std::collections::{HashMap, HashSet, VecDeque};
 use std::io;
 use std::sync::atomic::{AtomicU64, Ordering};
-use std::sync::mpsc::{Receiver, Sender, SyncSender, TrySendError, channel};
+use std::sync::mpsc::{Receiver, Sender, channel};
 use std::sync::{Arc, Mutex, MutexGuard, PoisonError, Weak};
 use std::thread;
 use std::time::{Duration, Instant};
@@ -49,9 +49,7 @@ const LONGEST_KNOWN: usize = 1_024;
 /// All keys that something is asked of.
 pub struct Keys {
     state: Mutex<State>,
-    events: SyncSender<Event>,
-    /// For what finds no room among the driver's events: a thread waits with it.
-    overflow: Sender<Event>,
+    asks: Arc<Asks>,
     given: AtomicU64,
 }
 
@@ -212,6 +210,8 @@ enum Step {
 /// A command that is to be proposed, or a read that is to be asked, once the state isn't locked any more.
 pub(crate) struct Launch {
     pub(crate) of: Of,
+    /// In whose turn: where it is for several connections, in that of the first.
+    pub(crate) connection: u64,
     /// None: the key is read.
     pub(crate) command: Option<OwnedCommand>,
     pub(crate) begun: Arc<Begun>,
@@ -233,11 +233,7 @@ impl Of {
 }
 
 impl Keys {
-    pub fn start(events: SyncSender<Event>, metrics: Arc<Metrics>) -> io::Result<Arc<Keys>> {
-        let (overflow, waiting) = channel();
-        let later = events.clone();
-        let hand_on = move || _ = waiting.into_iter().try_for_each(|event| later.send(event));
-        thread::Builder::new().name("overflow".into()).spawn(hand_on)?;
+    pub fn start(asks: Arc<Asks>, metrics: Arc<Metrics>) -> io::Result<Arc<Keys>> {
         let (resting, rests) = channel();
         let state = State {
             keys: HashMap::new(),
@@ -250,7 +246,7 @@ impl Keys {
             resting,
             flights: 0,
         };
-        let keys = Arc::new(Keys { state: Mutex::new(state), events, overflow, given: AtomicU64::new(0) });
+        let keys = Arc::new(Keys { state: Mutex::new(state), asks, given: AtomicU64::new(0) });
         let weak = Arc::downgrade(&keys);
         thread::Builder::new().name("rests".into()).spawn(move || wake_all(&weak, &rests))?;
         Ok(keys)
@@ -337,21 +333,16 @@ impl Keys {
 
     /// Hands a command to the driver.
     fn launch(self: &Arc<Keys>, launch: Launch) {
-        let Launch { of, command, begun } = launch;
+        let Launch { of, connection, command, begun } = launch;
         let what = command.map_or_else(|| What::Get(of.key().clone()), What::Propose);
         let keys = self.clone();
         let reply = ReplySender::of(begun, move |outcome| keys.take(of, outcome));
-        self.send(Ask { what, reply });
+        self.send(connection, Ask { what, reply });
     }
 
-    /// Asks the driver, without waiting for it.
-    pub fn send(&self, ask: Ask) {
-        match self.events.try_send(Event::Ask(ask)) {
-            Err(TrySendError::Full(event)) => _ = self.overflow.send(event),
-            // (where the driver has ended it isn't proposed any more)
-            Err(TrySendError::Disconnected(Event::Ask(ask))) => ask.reply.send(Outcome::Ending),
-            Err(TrySendError::Disconnected(_)) | Ok(()) => {}
-        }
+    /// Asks the driver in a connection's turn, without waiting for it.
+    pub fn send(&self, connection: u64, ask: Ask) {
+        self.asks.put(connection, ask);
     }
 
     /// What became of a command, or of a read.
@@ -426,10 +417,11 @@ impl State {
     /// Begins a read of what only reads.
     fn begin_reading(&mut self, key: Vec<u8>, asked: Asked) -> Launch {
         self.flights += 1;
+        let connection = asked.to.connection;
         let flight = Flight::new(self.flights, vec![asked], true);
         let (number, begun) = (flight.number, flight.begun.clone());
         self.keys.entry(key.clone()).or_default().flights.push(flight);
-        Launch { of: Of::Flight(key, number), command: None, begun }
+        Launch { of: Of::Flight(key, number), connection, command: None, begun }
     }
 
     /// Has all begun that may begin now.
@@ -483,17 +475,14 @@ impl State {
         let more = found.take_waiting(number, room);
         let flight = found.flight(number)?;
         flight.asked.extend(more);
-        if flight.asked.is_empty() {
-            return self.next(key, number);
-        }
+        let Some(first) = flight.asked.first() else { return self.next(key, number) };
+        let connection = first.to.connection;
         flight.now = stored::now();
         let (step, after, command) = command(&flight.asked, &key, current, flight.now);
         (flight.step, flight.after, flight.together) = (step, after, flight.asked.len());
         flight.begun = Arc::default();
         let begun = flight.begun.clone();
-        let of = Of::Flight(key.clone(), number);
-        let Some(command) = command else { return Some(Launch { of, command: None, begun }) };
-        Some(Launch { of, command: Some(command), begun })
+        Some(Launch { of: Of::Flight(key, number), connection, command, begun })
     }
 
     fn take(&mut self, key: Vec<u8>, number: u64, outcome: Outcome) -> Option<Launch> {
@@ -689,16 +678,16 @@ pub(crate) mod tests {
     pub(crate) struct Store {
         pub(crate) keys: Arc<Keys>,
         metrics: Arc<Metrics>,
-        events: Mutex<Receiver<Event>>,
+        asks: Arc<Asks>,
+        come: Mutex<VecDeque<Ask>>,
         pub(crate) outbox: Arc<Outbox>,
     }
 
     impl Store {
         pub(crate) fn new() -> Store {
-            let (sender, events) = sync_channel(64);
-            let metrics = Arc::<Metrics>::default();
-            let keys = Keys::start(sender, metrics.clone()).unwrap();
-            Store { keys, metrics, events: Mutex::new(events), outbox: Arc::default() }
+            let (asks, metrics) = (Asks::new(sync_channel(1).0), Arc::<Metrics>::default());
+            let keys = Keys::start(asks.clone(), metrics.clone()).unwrap();
+            Store { keys, metrics, asks, come: Mutex::default(), outbox: Arc::default() }
         }
 
         /// Asks; its reply comes under this number.
@@ -733,17 +722,25 @@ pub(crate) mod tests {
         }
 
         fn asked(&self) -> (What, ReplySender) {
-            let event = self.events.lock().unwrap().recv_timeout(Duration::from_secs(60));
-            asked_by(event.unwrap())
+            let start = Instant::now();
+            loop {
+                if let Some(Ask { what, reply }) = self.come().pop_front() {
+                    return (what, reply);
+                }
+                assert!(start.elapsed() < Duration::from_secs(60));
+                thread::sleep(Duration::from_millis(1));
+            }
         }
 
         /// All that has come to be asked.
-        pub(crate) fn come(&self) -> Vec<(What, ReplySender)> {
-            self.events.lock().unwrap().try_iter().map(asked_by).collect()
+        pub(crate) fn come(&self) -> MutexGuard<'_, VecDeque<Ask>> {
+            let mut come = self.come.lock().unwrap();
+            come.extend(self.asks.take(usize::MAX, usize::MAX));
+            come
         }
 
         pub(crate) fn is_idle(&self) -> bool {
-            self.events.lock().unwrap().try_recv().is_err()
+            self.come().is_empty()
         }
 
         /// The replies that came, by the numbers.
@@ -763,10 +760,6 @@ pub(crate) mod tests {
             }
             replies
         }
-    }
-
-    fn asked_by(event: Event) -> (What, ReplySender) {
-        if let Event::Ask(Ask { what, reply }) = event { (what, reply) } else { panic!() }
     }
 
     fn part(message: Message) -> (u64, Reply) {
@@ -894,6 +887,29 @@ pub(crate) mod tests {
         store.reads("x").send(Outcome::Alone);
         assert_eq!(store.replies(), [(6, Reply::Error(CommandFault::NoMajority))]);
         assert!(store.is_idle());
+    }
+
+    #[test]
+    fn beside_long_pipelines_a_command_waits_for_one_of_each() {
+        let store = Store::new();
+        for number in 0..1_000 {
+            for connection in 1..5 {
+                let key = format!("{connection}-{number}");
+                store.ask_by(connection, number, &key, if number % 2 == 0 { set("1") } else { Action::Get });
+            }
+        }
+        store.ask_by(9, 0, "mine", set("1"));
+        store.ask_by(9, 1, "its", Action::Get);
+        // (none of theirs comes again meanwhile, as none is answered)
+        let place = |asks: Vec<Ask>| {
+            asks.iter().position(|ask| match &ask.what {
+                What::Propose(command) => *command == OwnedCommand::Put { key: b"mine".into(), value: b"1".into() },
+                What::Get(key) => key == b"its",
+                _ => false,
+            })
+        };
+        assert_eq!(place(store.asks.take(100, 0)), Some(4));
+        assert_eq!(place(store.asks.take(0, 100)), Some(4));
     }
 
     #[test]
@@ -1038,10 +1054,7 @@ pub(crate) mod tests {
     #[test]
     fn what_was_not_proposed_was_not_done() {
         let store = Store::new();
-        let held = || match store.events.lock().unwrap().recv_timeout(Duration::from_secs(60)).unwrap() {
-            Event::Ask(Ask { what: What::Propose(command), reply }) => (command, reply),
-            _ => panic!(),
-        };
+        let held = || if let (What::Propose(command), reply) = store.asked() { (command, reply) } else { panic!() };
         let put = |value: &str| OwnedCommand::Put { key: b"x".to_vec(), value: value.into() };
         // It waits for the next generation, and nobody for it any more.
         let id = store.ask(0, "x", set("1"));
@@ -1119,20 +1132,18 @@ pub(crate) mod tests {
                 let is_over = Arc::new(AtomicBool::new(false));
                 let ends = is_over.clone();
                 let drive = move || {
-                    let (mut random, events) = (Random::from_seed(seed as u64 + 1), store.events.lock().unwrap());
+                    let mut random = Random::from_seed(seed as u64 + 1);
                     while !is_over.load(Ordering::Relaxed) {
-                        let event = events.recv_timeout(Duration::from_millis(10));
-                        let answered = match event {
-                            Ok(Event::Ask(Ask { what: What::Propose(command), reply })) => {
-                                (reply, done(execute(&mut map.lock().unwrap(), &command)))
-                            }
-                            Ok(Event::Ask(Ask { what: What::Get(key), reply })) => {
-                                (reply, Outcome::Value(map.lock().unwrap().get(&key).cloned()))
-                            }
-                            _ => continue,
+                        thread::sleep(Duration::from_micros(random.below(300)));
+                        let next = store.come().pop_front();
+                        let Some(Ask { what, reply }) = next else { continue };
+                        let outcome = match what {
+                            What::Propose(command) => done(execute(&mut map.lock().unwrap(), &command)),
+                            What::Get(key) => Outcome::Value(map.lock().unwrap().get(&key).cloned()),
+                            _ => panic!(),
                         };
                         thread::sleep(Duration::from_micros(random.below(300)));
-                        answered.0.send(answered.1);
+                        reply.send(outcome);
                     }
                 };
                 scope.spawn(drive);

@@ -1,5 +1,6 @@
 //! The one thread that serves: a host ([`Host`]), over the store's folder, its peers' links and its clients' questions.
 use crate::core::ask::{Ask, What};
+use crate::core::asks::Asks;
 use crate::core::event::Event;
 use crate::core::expiring::Expiring;
 use crate::core::outcome::{Outcome, so_from};
@@ -38,6 +39,10 @@ const BETWEEN_METRICS: Duration = Duration::from_millis(50);
 const TICK: Duration = Duration::from_secs(1);
 /// Who leaves and waits for the others says so that often.
 const BETWEEN_WORDS: Duration = Duration::from_secs(60);
+/// So many commands of clients wait in the host to be proposed at most, and so many of their reads are there; the rest
+/// waits here, where connections take turns.
+const MOST_HELD: usize = 256;
+const MOST_READS: usize = 512;
 /// Who was asked to end waits so long for what is under way.
 const MOST_WAIT_FOR_END: Duration = Duration::from_secs(5);
 
@@ -53,6 +58,7 @@ pub struct Parts {
     pub seen: Seen,
     pub expiring: Expiring,
     pub events: Receiver<Event>,
+    pub asks: Arc<Asks>,
     /// Where its events come from, for what is done in the background.
     pub own: SyncSender<Event>,
     pub metrics: Arc<Metrics>,
@@ -66,6 +72,8 @@ pub struct Serving {
     it: Parts,
     /// Who waits, by the number under which the host was asked.
     waiting: HashMap<u64, Waiting>,
+    /// How many of these have asked something else than a command.
+    reading: usize,
     asked: u64,
     ends_at: Option<Instant>,
     next_metrics: Instant,
@@ -84,13 +92,13 @@ struct Waiting {
     reply: ReplySender,
     /// Of who wishes something of the next generation: how many replicas there are to be, where that was asked for.
     wish: Option<Option<u8>>,
+    is_command: bool,
 }
 
 /// Nothing serves any more, and what is asked isn't done.
 fn refuse(event: Event) {
-    let Event::Ask(Ask { what, reply }) = event else { return };
-    if !matches!(what, What::Info | What::Manage(..)) {
-        reply.send(Outcome::Ending);
+    if let Event::Ask(ask) = event {
+        ask.refuse();
     }
 }
 
@@ -100,6 +108,7 @@ impl Serving {
         let mut serving = Serving {
             it,
             waiting: HashMap::new(),
+            reading: 0,
             asked: 0,
             ends_at: None,
             next_metrics: now,
@@ -143,7 +152,8 @@ impl Serving {
         if let StopFault::Host(HostFault::Left(next)) = &stop {
             self.mark_left(*next);
         }
-        let Serving { it: Parts { events, .. }, workers, .. } = self;
+        let Serving { it: Parts { events, asks, .. }, workers, .. } = self;
+        asks.end();
         events.try_iter().for_each(refuse);
         let left = events;
         // (what is dropped at the end of this may bring the next one of its key, and clients may ask until the process
@@ -169,7 +179,8 @@ impl Serving {
             return Err(StopFault::Asked);
         }
         let due = self.ends_at.map_or(self.it.host.due(), |at| at.min(self.it.host.due())).min(self.next_tick);
-        let mut next = match self.it.events.recv_timeout(due.saturating_duration_since(now)) {
+        let pause = if self.take_asks(now) { Duration::ZERO } else { due.saturating_duration_since(now) };
+        let mut next = match self.it.events.recv_timeout(pause) {
             Ok(event) => Some(event),
             Err(RecvTimeoutError::Timeout) => None,
             Err(RecvTimeoutError::Disconnected) => return Err(StopFault::Alone),
@@ -182,6 +193,15 @@ impl Serving {
             next = if has_room { self.it.events.try_recv().ok() } else { None };
         }
         Ok(())
+    }
+
+    /// Takes what clients ask, as far as there is room in the host: whether there was any.
+    fn take_asks(&mut self, now: Instant) -> bool {
+        let (held, reading) = (self.it.host.held(), self.reading);
+        let asks = self.it.asks.take(MOST_HELD.saturating_sub(held), MOST_READS.saturating_sub(reading));
+        let is_some = !asks.is_empty();
+        asks.into_iter().for_each(|Ask { what, reply }| self.ask(what, reply, now));
+        is_some
     }
 
     fn take(&mut self, event: Event) -> Result<(), StopFault> {
@@ -200,6 +220,8 @@ impl Serving {
                 host.end(now);
                 self.ends_at.get_or_insert(now + MOST_WAIT_FOR_END);
             }
+            // (they are taken after the next turn)
+            Event::Asked => {}
             Event::Ask(Ask { what, reply }) => self.ask(what, reply, now),
         }
         Ok(())
@@ -208,7 +230,7 @@ impl Serving {
     fn ask(&mut self, what: What, reply: ReplySender, now: Instant) {
         self.asked += 1;
         let (token, host) = (self.asked, &mut self.it.host);
-        let mut wish = None;
+        let (mut wish, is_command) = (None, matches!(what, What::Propose(_)));
         match what {
             What::Propose(command) => host.call_with(token, command, reply.shared(), now),
             What::Get(key) => host.read(token, key, now),
@@ -223,7 +245,8 @@ impl Serving {
                 };
             }
         }
-        self.waiting.insert(token, Waiting { reply, wish });
+        self.reading += usize::from(!is_command);
+        self.waiting.insert(token, Waiting { reply, wish, is_command });
     }
 
     fn info(&self) -> String {
@@ -293,7 +316,8 @@ impl Serving {
     }
 
     fn send_reply(&mut self, token: u64, outcome: host::Told) {
-        let Some(Waiting { reply, wish }) = self.waiting.remove(&token) else { return };
+        let Some(Waiting { reply, wish, is_command }) = self.waiting.remove(&token) else { return };
+        self.reading -= usize::from(!is_command);
         reply.send(match (outcome, wish) {
             (host::Told::Changed(generation), Some(size)) => Outcome::Managed(Ok(so_from(generation, size))),
             (host::Told::Refused(Refusal::Left), Some(size)) => Outcome::Managed(self.left_for(size)),

@@ -135,8 +135,8 @@ impl State {
         transacting.begun = Arc::default();
         for key in keys {
             let of = Of::Transaction(number, transacting.attempt, key);
-            let begun = transacting.begun.clone();
-            self.launches.push(Launch { of, command: None, begun });
+            let (connection, begun) = (transacting.to.connection, transacting.begun.clone());
+            self.launches.push(Launch { of, connection, command: None, begun });
         }
     }
 
@@ -145,9 +145,9 @@ impl State {
         transacting.attempt += 1;
         transacting.begun = Arc::default();
         let (of, begun) = (Of::Transaction(number, transacting.attempt, Vec::new()), transacting.begun.clone());
-        let command = Some(proposal.command.clone());
+        let (connection, command) = (transacting.to.connection, Some(proposal.command.clone()));
         transacting.stage = Stage::Proposed(proposal);
-        self.launches.push(Launch { of, command, begun });
+        self.launches.push(Launch { of, connection, command, begun });
     }
 
     /// What became of what a transaction has asked.
@@ -268,7 +268,7 @@ mod tests {
     use crate::client::commands::{Asked, understand};
     use crate::client::multi::{Judged, Multi};
     use crate::client::outbox::{Message, Messages};
-    use crate::core::ask::What;
+    use crate::core::ask::{Ask, What};
     use crate::core::keys::tests::{Store, done, set, value};
     use crate::core::stored::Stored;
     use crate::core::transaction::Condition;
@@ -540,11 +540,11 @@ mod tests {
     fn settle(store: &Store, map: &mut Map, random: &mut Random) {
         let mut under_way = Vec::new();
         loop {
-            under_way.extend(store.come());
+            under_way.extend(store.come().drain(..));
             if under_way.is_empty() {
                 return;
             }
-            let (what, reply) = under_way.swap_remove(random.below(under_way.len() as u64) as usize);
+            let Ask { what, reply } = under_way.swap_remove(random.below(under_way.len() as u64) as usize);
             let outcome = match what {
                 What::Get(key) => Outcome::Value(map.get(&key).cloned()),
                 What::Propose(command) if reply.begun().begin() => done(execute(map, &command)),

@@ -62,7 +62,7 @@ impl Look {
             let (outbox, connection, number, of) = (self.outbox.clone(), self.connection, self.number, key.clone());
             let send = move |outcome| outbox.put(connection, Message::Looked(number, of, outcome));
             let reply = ReplySender::of(self.begun.clone(), send);
-            self.keys.send(Ask { what: What::Get(key.clone()), reply });
+            self.keys.send(connection, Ask { what: What::Get(key.clone()), reply });
         }
         None
     }

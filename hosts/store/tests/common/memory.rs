@@ -2,13 +2,14 @@
 use std::net::TcpListener;
 use std::path::PathBuf;
 use std::sync::Arc;
-use std::sync::atomic::{AtomicU64, Ordering};
+use std::sync::atomic::AtomicU64;
 use std::sync::mpsc::{Receiver, sync_channel};
 use std::thread;
 use std::time::{Duration, Instant};
 use store::client::clients::{Shared, listen};
 use store::client::memory::Memory as Bytes;
 use store::core::ask::{Ask, What};
+use store::core::asks::Asks;
 use store::core::event::Event;
 use store::core::keys::Keys;
 use store::core::listing::Listing;
@@ -42,11 +43,11 @@ impl Memory {
         let port = listener.local_addr().unwrap().port();
         let (events, asked) = sync_channel(4_096);
         let metrics = Arc::<Metrics>::default();
-        let keys = Keys::start(events.clone(), metrics.clone()).unwrap();
-        let listing = Arc::new(Listing::new(events.clone(), PATIENCE));
+        let asks = Asks::new(events.clone());
+        let keys = Keys::start(asks.clone(), metrics.clone()).unwrap();
+        let listing = Arc::new(Listing::new(events, PATIENCE));
         metrics.takes_part.set(1);
         let mut shared = Shared {
-            events,
             keys,
             listing,
             patience: PATIENCE,
@@ -62,7 +63,7 @@ impl Memory {
         change(&mut shared);
         let turns = Arc::<AtomicU64>::default();
         let counted = turns.clone();
-        thread::spawn(move || drive(&asked, takes, &counted));
+        thread::spawn(move || drive(&asked, &asks, (takes, &counted)));
         thread::spawn(move || listen(listener, Arc::new(shared)));
         Memory { port, folder, turns }
     }
@@ -84,16 +85,16 @@ impl Drop for Memory {
 }
 
 /// Takes what has come, waits, and answers all of it, in any order.
-fn drive(asked: &Receiver<Event>, takes: Duration, turns: &AtomicU64) {
+fn drive(events: &Receiver<Event>, asks: &Asks, (takes, turns): (Duration, &AtomicU64)) {
     let (mut map, mut random) = (Map::new(), Random::from_seed(1));
-    while let Ok(first) = asked.recv() {
-        let mut events = vec![first];
-        events.extend(asked.try_iter());
+    while let Ok(first) = events.recv() {
+        let asked = |event| if let Event::Ask(ask) = event { Some(ask) } else { None };
+        let mut come: Vec<Ask> = [first].into_iter().chain(events.try_iter()).filter_map(asked).collect();
+        come.extend(asks.take(usize::MAX, usize::MAX));
         thread::sleep(takes);
         turns.fetch_add(1, Ordering::Relaxed);
-        while !events.is_empty() {
-            let event = events.swap_remove(random.below(events.len() as u64) as usize);
-            let Event::Ask(Ask { what, reply }) = event else { continue };
+        while !come.is_empty() {
+            let Ask { what, reply } = come.swap_remove(random.below(come.len() as u64) as usize);
             let is_given_up = matches!(what, What::Propose(_)) && !reply.begun().begin();
             reply.send(match what {
                 _ if is_given_up => Outcome::Late,

@@ -55,6 +55,22 @@ impl Host {
         self.hold(Held { since: now, token, command, is_given_up: false, begun: Some(begun) });
     }
 
+    /// How many calls wait to be proposed. Whoever has more to ask for many clients may let these take turns meanwhile.
+    ///
+    /// ```
+    /// # use epaxos::{Cluster, OwnedCommand, host::{Host, Settings}, service::MemoryDisk};
+    /// # use std::time::Instant;
+    /// # fn main() -> Result<(), Box<dyn std::error::Error>> {
+    /// let now = Instant::now();
+    /// let mut host = Host::begin(&Settings::new(Cluster::Three, 0), &MemoryDisk::default(), now)?;
+    /// host.call(7, OwnedCommand::Del { key: b"x".into() }, now);
+    /// assert_eq!(host.held(), 1);
+    /// # Ok(()) }
+    /// ```
+    pub fn held(&self) -> usize {
+        self.calls.held.len()
+    }
+
     fn hold(&mut self, held: Held) {
         self.due = self.due.min(held.since);
         let refusal = match &held.command {
