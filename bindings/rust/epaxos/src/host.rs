@@ -150,7 +150,7 @@ use handing::Going;
 use held::{Held, Request};
 use here::Here;
 use ids::Ids;
-use members::cluster_of;
+use members::{Asking, cluster_of};
 use starting::Started;
 use std::collections::{BTreeMap, BTreeSet, VecDeque};
 use std::time::{Duration, Instant};
@@ -225,6 +225,9 @@ pub struct Host {
     met: Vec<Option<Identity>>,
     outside: BTreeMap<(u8, Identity), Instant>,
     wishes: Wishes<u64>,
+    /// Whether what is wished waits for answers, and how often they were asked for.
+    asking: Option<Asking>,
+    questions: u64,
     ids: Ids,
     calls: Calls<Held>,
     /// The greatest stamp that a receipt had.
@@ -557,6 +560,8 @@ impl Host {
             met: vec![None; MOST_REPLICAS.into()],
             outside: BTreeMap::new(),
             wishes: Wishes::default(),
+            asking: None,
+            questions: 0,
             ids,
             // (the peers may just be starting)
             calls: Calls { alone_since: Some(now + STARTING), ..calls },
@@ -783,6 +788,7 @@ impl Host {
         self.read_all(now)?;
         let mut batch = self.take_pending(now);
         self.release(&mut batch, now);
+        self.grant(now);
         self.seal(&mut batch, now);
         self.prepare_next();
         if !self.progress.generation.is_sealed() {
@@ -824,8 +830,8 @@ impl Host {
         let execution = self.executions.is_due().then_some(self.next_execution);
         let is_closing = self.progress.generation.stage == Stage::Committed && self.executions.is_due();
         let sealed = self.progress.served_until().or(is_closing.then_some(now));
-        let (calls, pending) = (self.calls.due(), self.pending.due());
-        [watch, execution, sealed, calls, pending, self.reads.due()].into_iter().flatten().min()
+        let (calls, pending, asking) = (self.calls.due(), self.pending.due(), self.asking.map(|it| it.due()));
+        [watch, execution, sealed, calls, pending, asking, self.reads.due()].into_iter().flatten().min()
     }
 
     fn send(&mut self, to: u8, bytes: Vec<u8>) {

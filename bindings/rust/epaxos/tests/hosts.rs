@@ -9,7 +9,9 @@ mod net;
 mod ports;
 
 use calls::{outcome_of, raise};
-use epaxos::host::{Act, FolderFault, Host, HostFault, Name, Refusal, Settings, StartFault, Stored, Told, Wish};
+use epaxos::host::{
+    Act, FolderFault, Host, HostFault, Name, Refusal, Settings, StartFault, Stored, Told, Wish, WishFault,
+};
 use epaxos::service::{Disk, Folder, MemoryDisk, Service, Start, TcpLink};
 use epaxos::sim::{Age, Plan, Trouble, What, leave, run};
 use epaxos::{Cluster, OwnedAnswer, OwnedCommand};
@@ -176,7 +178,7 @@ fn a_copy_of_a_generation_that_others_have_left_ends() {
             net.hosts[2].call(net.calls + 1, put(100 + key), net.now);
             assert_eq!(net.outcome(), Told::Done(OwnedAnswer::Absent));
         }
-        net.away = Some(2);
+        net.away = vec![2];
         for _ in 0..seals {
             net.hosts[0].wish(net.calls + 1, Wish::Seal, net.now);
             assert!(matches!(net.outcome(), Told::Changed(_)));
@@ -220,7 +222,7 @@ fn who_starts_listens_first() {
     let disk = copied(&net.disks[2]);
     net.start(2, &settings, disk);
     net.hosts[2].link_lost(1, net.now);
-    net.away = Some(1);
+    net.away = vec![1];
     let begun = net.now;
     net.hosts[2].call(net.calls + 1, put(1), net.now);
     assert_eq!(net.outcome(), Told::Done(OwnedAnswer::Absent));
@@ -247,7 +249,7 @@ fn who_lags_goes_through_the_logs_of_a_peer() {
         keys.for_each(|key| assert_eq!(net.ask(put(key)), Told::Done(OwnedAnswer::Absent)));
     };
     done(&mut net, 0..10);
-    net.away = Some(2);
+    net.away = vec![2];
     for keys in [10..40, 40..70, 70..100, 100..120] {
         done(&mut net, keys);
         net.hosts[0].wish(net.calls + 1, Wish::Seal, net.now);
@@ -255,7 +257,7 @@ fn who_lags_goes_through_the_logs_of_a_peer() {
     }
     let newest = net.hosts[0].status().generation;
     assert!(newest >= 4 && net.hosts[2].status().generation == 1, "{newest}");
-    net.away = None;
+    net.away.clear();
     for _ in 0..10_000 {
         net.turn();
         if net.hosts[2].status().generation >= newest && net.hosts[2].look_up(&[119]) == Ok(Some(vec![119; 3_000])) {
@@ -322,7 +324,7 @@ fn older_folders_are_gone_on_from() {
     let mut hosts: Vec<Host> = (0..).zip(&disks).map(|(me, it)| Host::open(&settings(me), it, now).unwrap()).collect();
     hosts[0].link_opened(1, now);
     hosts[1].link_opened(0, now);
-    let mut net = Net { hosts, disks, now, calls: 0, away: Some(2), written: 0, followed: 0, writes: false };
+    let mut net = Net { hosts, disks, now, calls: 0, away: vec![2], written: 0, followed: 0, writes: false };
     let put = |key: &[u8], value: u8| OwnedCommand::Put { key: key.into(), value: vec![value] };
     assert_eq!(net.ask(put(b"x", b'6')), Told::Done(OwnedAnswer::Present(b"5".into())));
     assert_eq!(net.hosts[0].status().generation, 2);
@@ -356,6 +358,30 @@ fn a_map_that_is_bounded_is_filled_and_not_passed() {
     assert_eq!(net.ask(put(9)), Told::Done(OwnedAnswer::Absent));
 }
 
+/// Who has fallen silent counts for no majority, though it isn't known to be lost.
+#[test]
+fn who_has_fallen_silent_counts_for_nothing() {
+    let mut net = Net::begin(&Settings { identity: Some([0; 16]), ..Settings::new(Cluster::Five, 0) });
+    let put = OwnedCommand::Put { key: b"x".into(), value: b"1".into() };
+    assert_eq!(net.ask(put), Told::Done(OwnedAnswer::Absent));
+    let resize = |net: &mut Net, size, new| {
+        net.hosts[0].wish(net.calls + 1, Wish::Resize { size, new }, net.now);
+        net.outcome()
+    };
+    // Of the three that would stay one is there.
+    net.away = vec![1, 2];
+    let refused = Told::Refused(Refusal::Wish(WishFault::NoMajority { reached: 1, replicas: 3 }));
+    assert_eq!(resize(&mut net, 3, Vec::new()), refused);
+    assert_eq!(net.hosts[0].status().reached, [1, 2, 3, 4]);
+    net.away = vec![1, 2, 3];
+    let refused = Told::Refused(Refusal::Wish(WishFault::Alone { reached: 2, replicas: 5 }));
+    assert_eq!(resize(&mut net, 3, Vec::new()), refused);
+    // One that answers makes it two of three.
+    net.away = vec![2, 4];
+    assert!(matches!(resize(&mut net, 3, Vec::new()), Told::Changed(2)));
+    assert_eq!(net.hosts[0].members().len(), 3);
+}
+
 /// What is here is read after all that is known to be committed, without the others.
 #[test]
 fn what_is_here_is_read_without_the_others() {
@@ -364,7 +390,7 @@ fn what_is_here_is_read_without_the_others() {
     (0..3).for_each(|key| assert_eq!(net.ask(put(key)), Told::Done(OwnedAnswer::Absent)));
     // (the second one learns of commits with what comes next)
     (0..20).for_each(|_| assert!(net.turn().is_empty()));
-    net.away = Some(1);
+    net.away = vec![1];
     net.hosts[1].read_here(4, vec![2], net.now);
     assert_eq!(net.outcome(), Told::Value(Some(vec![2])));
     net.hosts[1].read_all_here(5, net.now);

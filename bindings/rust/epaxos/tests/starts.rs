@@ -224,13 +224,13 @@ fn who_observes_knows_the_map() {
         assert!(is_same(&mut net) && kept.0.lock().unwrap().len() == 4);
         assert_eq!(net.ask(put("key-5", "value")), Told::Done(OwnedAnswer::Absent));
         // It misses two generations, and takes an opening.
-        net.away = Some(2);
+        net.away = vec![2];
         for generation in [5, 6] {
             assert_eq!(net.ask(put(&format!("away-{generation}"), "value")), Told::Done(OwnedAnswer::Absent));
             net.hosts[0].wish(net.calls + 1, Wish::Seal, net.now);
             assert_eq!(net.outcome(), Told::Changed(generation));
         }
-        net.away = None;
+        net.away.clear();
         (0..4_000).for_each(|_| assert!(net.turn().is_empty()));
         assert_eq!((net.hosts[2].generation(), net.hosts[2].status().taken), (6, 1));
         assert!(is_same(&mut net) && kept.0.lock().unwrap().len() == 7);

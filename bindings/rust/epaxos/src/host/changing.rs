@@ -131,7 +131,10 @@ impl Host {
             let outcome = granted.map_or_else(|fault| Told::Refused(Refusal::Wish(fault)), |()| Told::Changed(number));
             self.reply(token, outcome);
         }
-        self.progress.generation.is_asked |= !self.wishes.is_empty();
+        self.asking = None;
+        if !self.wishes.is_empty() {
+            self.ask_for_wishes(now);
+        }
         self.greet_all();
         self.note_left();
         if self.files.is_due(self.settings.checkpoint, self.progress.place) {

@@ -12,6 +12,63 @@ use std::time::{Duration, Instant};
 const WAITS: Duration = Duration::from_secs(5);
 /// At most so many that wait are known.
 const MOST_WAITING: usize = 64;
+/// Who is to take part has so long to answer once something is wished, and is asked again and again meanwhile.
+const ANSWERS: Duration = Duration::from_secs(3);
+const BETWEEN_QUESTIONS: Duration = Duration::from_millis(250);
+/// Numbers of questions are above those of other pings.
+const QUESTIONS: u64 = 1 << 63;
+
+/// What is wished waits for answers.
+#[derive(Clone, Copy)]
+pub(super) struct Asking {
+    since: Instant,
+    again: Instant,
+    until: Instant,
+}
+
+impl Asking {
+    pub(super) fn due(&self) -> Instant {
+        self.again.min(self.until)
+    }
+}
+
+/// The machines, of which those count that have answered since something was wished, or have said since then that they
+/// wait.
+struct Answered<'a>(&'a Host, Instant);
+
+impl Machines for Answered<'_> {
+    fn place(&self) -> Place {
+        self.0.place()
+    }
+
+    fn named(&self) -> &Members {
+        self.0.named()
+    }
+
+    fn is_reached(&self, peer: u8) -> bool {
+        self.0.is_reached(peer)
+    }
+
+    fn known(&self, replica: u8) -> Option<Identity> {
+        self.0.known(replica)
+    }
+
+    fn is_waiting(&self, replica: u8, identity: &Identity) -> bool {
+        self.0.is_waiting(replica, identity)
+    }
+
+    fn counts(&self, peer: u8) -> bool {
+        let Answered(host, _) = self;
+        let is_believed = host.settings.has(Plant::ResizesAlone) || host.settings.has(Plant::ResizesUnasked);
+        host.is_reached(peer) && (is_believed || host.progress.others.has_answered(peer))
+    }
+
+    fn counts_waiting(&self, replica: u8, identity: &Identity) -> bool {
+        let Answered(host, since) = self;
+        let said = host.outside.get(&(replica, *identity));
+        said.is_some_and(|said| said >= since) || host.settings.has(Plant::ResizesAlone)
+    }
+}
 
 impl Machines for Host {
     fn place(&self) -> Place {
@@ -48,8 +105,8 @@ impl Host {
     /// of one that is gone, or there are 3, 5 or 7 replicas from then on. It is answered under this number, once:
     /// [`Told::Changed`], when a generation has begun in which it is so, or [`Told::Refused`].
     ///
-    /// It is granted only where majorities are reached of the present generation, and of the next one. Machines are
-    /// named by their identities ([`Settings::identity`](super::Settings::identity)), and wait to be let in by
+    /// It is granted only where majorities of the present generation, and of the next one, answer a question that is
+    /// asked for it, within some seconds. Machines are named by their identities ([`Settings::identity`](super::Settings::identity)), and wait to be let in by
     /// [`Host::join`]. A machine that is replaced, or isn't among fewer replicas, ends with [`HostFault::Replaced`] or
     /// [`HostFault::Left`], and must not come back.
     ///
@@ -83,15 +140,15 @@ impl Host {
         }
         match self.wishes.change(wish, self) {
             Ok(Some(change)) => {
-                self.progress.generation.is_asked = true;
                 self.wishes.ask(self.progress.generation.number, change, token);
+                self.ask_for_wishes(now);
             }
             Ok(None) => self.reply(token, Told::Changed(self.progress.generation.number)),
             Err(fault) => self.reply(token, Told::Refused(Refusal::Wish(fault))),
         }
     }
 
-    /// Whether a wish would be granted now, and isn't so by now: what [`wish`](Host::wish) would be answered at once is
+    /// Whether a wish would be granted now, where all answer that are reached, and isn't so by now: what [`wish`](Host::wish) would be answered at once is
     /// `Ok(false)`, or the refusal.
     ///
     /// # Errors
@@ -205,8 +262,45 @@ impl Host {
         }
     }
 
-    /// What a seal that this replica proposes says. Who has wished what can't be granted any more is answered so.
+    /// Asks all who may be there, by whose answers it is judged what is wished: all of it, where there is more.
+    pub(super) fn ask_for_wishes(&mut self, now: Instant) {
+        self.questions += 1;
+        let question = QUESTIONS | u64::from(self.ids.sealer()) << 31 | self.questions;
+        self.progress.others.ask(question);
+        self.progress.generation.is_asked = false;
+        self.asking = Some(Asking { since: now, again: now, until: now + ANSWERS });
+        self.grant(now);
+    }
+
+    /// Has what is wished granted, once enough have answered; or refused, once their time is over.
+    pub(super) fn grant(&mut self, now: Instant) {
+        let Some(asking) = self.asking else { return };
+        let mut wishes: Wishes<u64> = std::mem::take(&mut self.wishes);
+        let (machines, is_over) = (Answered(self, asking.since), now >= asking.until);
+        let is_granted = wishes.all_fit(&machines);
+        let refused = if is_over && !is_granted { wishes.drop_unfit(&machines) } else { Vec::new() };
+        self.wishes = wishes;
+        for (token, fault) in refused {
+            self.reply(token, Told::Refused(Refusal::Wish(fault)));
+        }
+        if is_granted || is_over {
+            self.asking = None;
+            self.progress.generation.is_asked = !self.wishes.is_empty();
+        } else if now >= asking.again {
+            self.asking = Some(Asking { again: now + BETWEEN_QUESTIONS, ..asking });
+            let ping = Message::Ping(self.progress.others.question()).write();
+            let left: Vec<u8> = self.progress.peers().filter(|it| !self.progress.others.has_answered(*it)).collect();
+            left.into_iter().for_each(|peer| self.send(peer, ping.clone()));
+        }
+    }
+
+    /// What a seal that this replica proposes says. Who has wished what can't be granted any more is answered so; what
+    /// waits for answers is left to the next generation.
     pub(super) fn seal_value(&mut self) -> Option<Vec<u8>> {
+        if self.asking.is_some() {
+            let names = self.settings.identity.is_some();
+            return Some(if names { present(self).write().into_bytes() } else { Vec::new() });
+        }
         let mut wishes: Wishes<u64> = std::mem::take(&mut self.wishes);
         let was_asked = !wishes.is_empty();
         let dropped = wishes.drop_unfit(self);
@@ -238,6 +332,7 @@ impl Host {
         let waiting = self.calls.waiting.take().flat_map(|waiting| waiting.members);
         let held = waiting.chain(std::mem::take(&mut self.calls.held)).map(|held| held.token);
         let wishes: Vec<u64> = self.wishes.take().map(|(token, _)| token).collect();
+        self.asking = None;
         let all: Vec<u64> = held.chain(self.reads.take()).chain(wishes).collect();
         all.into_iter().for_each(|token| self.reply(token, Told::Refused(Refusal::Left)));
     }

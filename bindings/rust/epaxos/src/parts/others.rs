@@ -22,6 +22,8 @@ struct Other {
     /// The same of this replica that it has reported it saw.
     sees: u32,
     greeted: Option<Instant>,
+    /// Whether it has answered the last question.
+    has_answered: bool,
 }
 
 /// All replicas, by their numbers; this one's place isn't used.
@@ -30,6 +32,8 @@ pub struct Others {
     /// With who sent it and its generation.
     early: VecDeque<(u8, u32, Vec<u8>)>,
     early_bytes: usize,
+    /// The number of the last question.
+    question: u64,
     /// Whether nothing that is seen is noted, where that is planted.
     pub is_blind: bool,
 }
@@ -37,7 +41,8 @@ pub struct Others {
 impl Others {
     /// Nothing is known of so many replicas.
     pub fn new(replicas: usize) -> Others {
-        Others { all: vec![Other::default(); replicas], early: VecDeque::new(), early_bytes: 0, is_blind: false }
+        let early = VecDeque::new();
+        Others { all: vec![Other::default(); replicas], early, early_bytes: 0, question: 0, is_blind: false }
     }
 
     /// From now on there are so many.
@@ -105,6 +110,29 @@ impl Others {
         if let Some(other) = self.all.get_mut(usize::from(replica)) {
             *other = Other { was_heard: other.was_heard, ..Other::default() };
         }
+    }
+
+    /// All are asked a question of this number, which has no other one.
+    pub fn ask(&mut self, question: u64) {
+        self.question = question;
+        self.all.iter_mut().for_each(|other| other.has_answered = false);
+    }
+
+    /// The number of the last question.
+    pub fn question(&self) -> u64 {
+        self.question
+    }
+
+    /// A replica has answered the question of this number.
+    pub fn hear_answer(&mut self, replica: u8, question: u64) {
+        if let Some(other) = self.all.get_mut(usize::from(replica)).filter(|_| question == self.question) {
+            other.has_answered = true;
+        }
+    }
+
+    /// Whether a replica has answered the last question, so that it was there when it was asked, or later.
+    pub fn has_answered(&self, replica: u8) -> bool {
+        self.all.get(usize::from(replica)).is_some_and(|other| other.has_answered)
     }
 
     pub fn generation(&self, replica: u8) -> u32 {
@@ -185,6 +213,15 @@ mod tests {
         it.hear(2, 5, false);
         it.begin(5);
         assert_eq!((it.seen(1), it.sees(1), it.is_met(1), it.is_met(2)), (0, 0, false, true));
+        it.ask(7);
+        [(1, 7), (2, 6), (3, 7)].into_iter().for_each(|(replica, question)| it.hear_answer(replica, question));
+        assert_eq!([1, 2, 3].map(|replica| it.has_answered(replica)), [true, false, false]);
+        it.forget(1);
+        it.hear_answer(2, 7);
+        assert!(!it.has_answered(1) && it.has_answered(2));
+        it.ask(8);
+        it.hear_answer(2, 7);
+        assert!(!it.has_answered(2));
     }
 
     #[test]

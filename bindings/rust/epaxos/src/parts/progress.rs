@@ -154,6 +154,7 @@ impl Progress {
 
     /// A peer has answered a ping.
     pub fn hear_pong(&mut self, peer: u8, number: u64, now: Instant) {
+        self.others.hear_answer(peer, number);
         let took = self.distances.answer(peer, number, now).filter(|_| self.measures);
         took.into_iter().for_each(|took| self.watch.measure(peer, took));
     }

@@ -87,6 +87,16 @@ pub trait Machines {
 
     /// Whether a machine of this identity waits to be let in under a number.
     fn is_waiting(&self, replica: u8, identity: &Identity) -> bool;
+
+    /// Whether a peer counts for a majority. One that is reached may have fallen silent just now.
+    fn counts(&self, peer: u8) -> bool {
+        self.is_reached(peer)
+    }
+
+    /// Likewise a machine of this identity that waits.
+    fn counts_waiting(&self, replica: u8, identity: &Identity) -> bool {
+        self.is_waiting(replica, identity)
+    }
 }
 
 /// Something that was asked for, until a generation begins in which it is so.
@@ -179,6 +189,15 @@ impl<T> Wishes<T> {
     /// It was asked for in this generation.
     pub fn ask(&mut self, generation: u32, change: Change, asker: T) {
         self.0.push(Wish { generation, change, asker });
+    }
+
+    /// Whether all of it can be made.
+    pub fn all_fit(&self, machines: &impl Machines) -> bool {
+        let mut next = present(machines);
+        self.0.iter().all(|wish| {
+            wish.change.make(&mut next);
+            judge(&wish.change, &next, machines).is_ok()
+        })
     }
 
     /// Before a seal: who asked for a change that can't be made any more, and why. Who is reached may have changed
@@ -279,8 +298,8 @@ fn known(replica: u8, machines: &impl Machines) -> Option<Identity> {
 fn reached(members: &Members, machines: &impl Machines) -> usize {
     let me = machines.place().replica;
     let is_reached = |(replica, member): &(u8, &Member)| match known(*replica, machines) {
-        known if known == member.identity => *replica == me || machines.is_reached(*replica),
-        _ => member.identity.is_some_and(|identity| machines.is_waiting(*replica, &identity)),
+        known if known == member.identity => *replica == me || machines.counts(*replica),
+        _ => member.identity.is_some_and(|identity| machines.counts_waiting(*replica, &identity)),
     };
     (0..).zip(&members.0).filter(is_reached).count()
 }

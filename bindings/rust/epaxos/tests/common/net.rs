@@ -5,13 +5,13 @@ use epaxos::host::{Host, HostFault, Reply, Settings, Told, Work};
 use epaxos::service::{Disk, MemoryDisk};
 use std::time::{Duration, Instant};
 
-/// Three hosts in memory, whose frames all come, but for those of one that is away.
+/// Hosts in memory, whose frames all come, but for those of some that are away.
 pub struct Net {
     pub hosts: Vec<Host>,
     pub disks: Vec<MemoryDisk>,
     pub now: Instant,
     pub calls: u64,
-    pub away: Option<u8>,
+    pub away: Vec<u8>,
     /// How many times one of them has had an opening written, and has gone through a peer's logs.
     pub written: usize,
     pub followed: usize,
@@ -21,14 +21,16 @@ pub struct Net {
 
 impl Net {
     pub fn begin(settings: &Settings) -> Net {
-        let (now, disks) = (Instant::now(), vec![MemoryDisk::default(), MemoryDisk::default(), MemoryDisk::default()]);
-        let of = |me: u8| Settings { me, seed: me.into(), ..settings.clone() };
+        let (now, count) = (Instant::now(), settings.cluster.replicas());
+        let disks: Vec<MemoryDisk> = (0..count).map(|_| MemoryDisk::default()).collect();
+        let identity = |me: u8| settings.identity.map(|_| [me; 16]);
+        let of = |me: u8| Settings { me, seed: me.into(), identity: identity(me), ..settings.clone() };
         let begin = |(me, disk): (u8, &MemoryDisk)| Host::begin(&of(me), disk, now).unwrap();
         let mut hosts: Vec<Host> = (0..).zip(&disks).map(begin).collect();
         for (me, host) in (0..).zip(&mut hosts) {
-            (0..3).filter(|peer| *peer != me).for_each(|peer| host.link_opened(peer, now));
+            (0..count).filter(|peer| *peer != me).for_each(|peer| host.link_opened(peer, now));
         }
-        Net { hosts, disks, now, calls: 0, away: None, written: 0, followed: 0, writes: false }
+        Net { hosts, disks, now, calls: 0, away: Vec::new(), written: 0, followed: 0, writes: false }
     }
 
     /// One starts with this disk, and is reached again.
@@ -36,7 +38,7 @@ impl Net {
         let settings = Settings { me, seed: 1_000 + u64::from(me), ..settings.clone() };
         let place = usize::from(me);
         (self.hosts[place], self.disks[place]) = (Host::open(&settings, &disk, self.now).unwrap(), disk);
-        self.away = None;
+        self.away.clear();
         for peer in (0..3).filter(|peer| *peer != me) {
             self.hosts[place].link_opened(peer, self.now);
             self.hosts[usize::from(peer)].link_opened(me, self.now);
@@ -80,7 +82,7 @@ impl Net {
             }
         }
         for (from, to, bytes) in frames {
-            if ![from, to].map(Some).contains(&self.away) {
+            if ![from, to].iter().any(|it| self.away.contains(it)) {
                 self.hosts[usize::from(to)].receive(from, bytes, self.now)?;
             }
         }
