@@ -382,6 +382,17 @@ fn who_has_fallen_silent_counts_for_nothing() {
     assert_eq!(net.hosts[0].members().len(), 3);
 }
 
+/// The same by the simulator's judge: two of the three that would stay are silent for long.
+#[test]
+fn no_resize_is_granted_beside_the_majority_that_stays() {
+    let split = Trouble { at: 2_000_000, machine: 0, what: What::Split(2, false), lasts: 20_000_000 };
+    let resize = Trouble { at: 4_000_000, machine: 0, what: What::Resize(Cluster::Three), lasts: 0 };
+    let plan = Plan { cluster: Cluster::Five, is_named: true, troubles: vec![split, resize], ..calm() };
+    let (seen, failure) = run(&plan);
+    assert_eq!((failure, seen.resized), (None, 1));
+    assert!(seen.time > Duration::from_secs(20));
+}
+
 /// What is here is read after all that is known to be committed, without the others.
 #[test]
 fn what_is_here_is_read_without_the_others() {

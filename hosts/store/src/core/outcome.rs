@@ -60,3 +60,26 @@ pub fn so_from(generation: u32, size: Option<u8>) -> String {
     let size = size.map_or_else(String::new, |size| format!(", of {size} replicas"));
     format!("generation {generation}{size}")
 }
+
+#[cfg(test)]
+mod tests {
+    use super::*;
+    use crate::client::command_fault::CommandFault;
+    use epaxos::host::Told;
+
+    /// A client whose command may be done, or was, isn't told that it wasn't.
+    #[test]
+    fn what_may_be_done_is_never_told_as_undone() {
+        let may_be = [Told::Doubtful, Told::DoneUnseen, Told::Replied(Vec::new())];
+        let undone = [Refusal::Alone, Refusal::Joining, Refusal::Late, Refusal::GivenUp, Refusal::Full];
+        let undone = undone.into_iter().chain([Refusal::MapFull, Refusal::Left, Refusal::Ending]);
+        let undone = undone.chain([Refusal::Fault(Fault::Memory)]).map(Told::Refused);
+        let all = may_be.map(|told| (told, true)).into_iter().chain(undone.map(|told| (told, false)));
+        for (told, expected) in all {
+            let fault = CommandFault::of(Outcome::of(told.clone()));
+            let says_undone = fault.to_string().contains("the command wasn't done");
+            assert_eq!((fault.may_be_done(), says_undone && expected), (expected, false), "{told:?}: {fault}");
+        }
+        assert!(CommandFault::of(Outcome::Ended).may_be_done());
+    }
+}

@@ -59,8 +59,7 @@ impl Machines for Answered<'_> {
 
     fn counts(&self, peer: u8) -> bool {
         let Answered(host, _) = self;
-        let is_believed = host.settings.has(Plant::ResizesAlone) || host.settings.has(Plant::ResizesUnasked);
-        host.is_reached(peer) && (is_believed || host.progress.others.has_answered(peer))
+        host.is_reached(peer) && (host.progress.others.has_answered(peer) || host.settings.has(Plant::ResizesAlone))
     }
 
     fn counts_waiting(&self, replica: u8, identity: &Identity) -> bool {

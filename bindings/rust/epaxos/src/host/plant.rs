@@ -73,8 +73,6 @@ pub enum Plant {
     ToldAnothers,
     /// A wish is granted whoever is reached, or waits.
     ResizesAlone,
-    /// A wish is granted by who was reached before, and may have fallen silent.
-    ResizesUnasked,
     /// The state of the machine that goes with an opening is that of later than where the generation began.
     LateSnapshot,
     /// An opening is written without the state of the machine.
@@ -95,7 +93,7 @@ impl Plant {
     ///
     /// assert!(Plant::ALL.iter().all(|plant| Plant::read(&plant.to_string()) == Some(*plant)));
     /// ```
-    pub const ALL: [Plant; 37] = [
+    pub const ALL: [Plant; 36] = [
         Plant::EarlyAnswer,
         Plant::BeforeSync,
         Plant::Forgetful,
@@ -127,7 +125,6 @@ impl Plant {
         Plant::DropsWhileBusy,
         Plant::ToldAnothers,
         Plant::ResizesAlone,
-        Plant::ResizesUnasked,
         Plant::LateSnapshot,
         Plant::LacksMachine,
         Plant::StaleMachine,

@@ -347,6 +347,22 @@ mod tests {
     }
 
     #[test]
+    fn where_there_are_more_replicas_more_have_to_answer() {
+        let (mut it, now) = (Reads::new(3), Instant::now());
+        for (replicas, others) in [(3, 1), (5, 2), (7, 3), (3, 1)] {
+            it.resize(replicas);
+            assert_eq!(it.others(), others);
+            ask(&mut it, "x", 1);
+            let number = it.send(vec![list(&[])], &[1, 2, 3], SOON, now);
+            for from in 1..=others as u8 {
+                assert!(known(&mut it).is_empty(), "{from} of {replicas}");
+                it.hear(from, number, 0, &[list(&[u16::from(from)])]);
+            }
+            assert_eq!(known(&mut it).len(), 1);
+        }
+    }
+
+    #[test]
     fn another_generation_asks_anew() {
         let (mut it, now) = (Reads::new(3), Instant::now());
         [("x", 1), ("y", 2), ("z", 3)].into_iter().for_each(|(key, reader)| ask(&mut it, key, reader));

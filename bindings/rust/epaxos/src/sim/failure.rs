@@ -28,6 +28,8 @@ pub enum Failure {
     Unseen(String),
     /// Nothing goes wrong any more, and something still waits, or the replicas don't agree.
     Stuck(String),
+    /// So many machines were wished, and it was granted though no majority of them, or of those before, was there.
+    NoMajority(u8),
     /// Nothing went wrong, and something was recovered.
     Recovered(u64),
     /// The audit of a generation refuses it.
@@ -56,6 +58,7 @@ impl fmt::Display for Failure {
             Failure::Older(machine) => write!(f, "machine {machine} goes on with an older copy of its disk"),
             Failure::Unseen(what) => write!(f, "a receipt wasn't handed in: {what}"),
             Failure::Stuck(what) => write!(f, "stuck: {what}"),
+            Failure::NoMajority(size) => write!(f, "{size} machines are wished and granted, and no majority is there"),
             Failure::Recovered(count) => write!(f, "nothing went wrong, and {count} instances were recovered"),
             Failure::Refused(what) => write!(f, "the audit refuses {what}"),
             Failure::Machine(what) => write!(f, "the state machine isn't one: {what}"),

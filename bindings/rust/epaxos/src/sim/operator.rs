@@ -39,6 +39,8 @@ pub(super) struct Operator {
     newest: u32,
     /// When the first task was begun.
     since: u64,
+    /// Of each machine that was asked for it, which ones have sent it something since, by bits, its own among them.
+    heard: [u8; 8],
 }
 
 impl Operator {
@@ -53,7 +55,23 @@ impl Operator {
             machine: 0,
             newest: 0,
             since: 0,
+            heard: [0; 8],
         }
+    }
+
+    /// Something that a machine has sent has come to another one.
+    pub(super) fn hear(&mut self, from: u8, to: u8) {
+        if let Some(heard) = self.heard.get_mut(usize::from(to)).filter(|heard| **heard != 0) {
+            *heard |= 1 << from;
+        }
+    }
+
+    /// Whether a machine that was asked for so many machines may have known majorities to be there, of these and of
+    /// those before. Who is new waits, as far as is known.
+    fn may_grant(&self, size: u8) -> bool {
+        let new = (self.size..size).fold(0, |all, machine| all | 1 << machine);
+        let has = |heard: u8, of: u8| (heard & ((1_u16 << of) - 1) as u8).count_ones() > u32::from(of / 2);
+        self.heard.iter().any(|heard| has(*heard, self.size) && has(heard | new, size))
     }
 
     pub(super) fn is_idle(&self) -> bool {
@@ -90,6 +108,7 @@ impl World<'_> {
         // (now and then before the machines are there)
         self.operator.is_early = self.random.below(2) == 0;
         (self.operator.asked, self.operator.since) = (None, self.now);
+        self.operator.heard = [0; 8];
         if let Some(Task::Resize(cluster)) = self.operator.tasks.front() {
             // (who was left out before, and doesn't know it yet, must not come back: another machine does)
             for machine in self.operator.size..cluster.replicas() {
@@ -166,6 +185,7 @@ impl World<'_> {
         if let Some(host) = &mut self.machine(machine).host {
             host.wish(token, wish, now);
             self.turn_soon(machine);
+            self.operator.heard[usize::from(machine)] |= 1 << machine;
         }
         self.after(if is_up { PATIENCE } else { AGAIN }, Event::Operate(token));
     }
@@ -180,23 +200,34 @@ impl World<'_> {
     }
 
     /// What was wished is answered. What is granted before the machines are there leaves the cluster without them.
-    pub(super) fn operator_answered(&mut self, token: u64, outcome: &Told) {
+    ///
+    /// # Errors
+    ///
+    /// [`Failure::NoMajority`], where a majority of those that go on has sent nothing since it was wished.
+    pub(super) fn operator_answered(&mut self, token: u64, outcome: &Told) -> Result<(), Failure> {
         if self.operator.asked.is_none_or(|(asked, ..)| asked != token) {
-            return;
+            return Ok(());
         }
         self.operator.is_open = false;
         // (what was so in an earlier generation, where somebody is still, may not be so any more)
         let generation = if let Told::Changed(generation) = outcome { *generation } else { 0 };
         if generation == 0 || generation < self.operator.newest {
             self.operator.is_early = false;
-            return self.after(AGAIN, Event::Operate(token));
+            self.after(AGAIN, Event::Operate(token));
+            return Ok(());
         }
         self.operator.newest = generation;
         if let Some(Task::Resize(cluster)) = self.operator.tasks.front() {
-            self.operator.size = cluster.replicas();
+            let size = cluster.replicas();
+            // (where there are so many by now nobody is asked)
+            if size != self.operator.size && !self.operator.may_grant(size) {
+                return Err(Failure::NoMajority(size));
+            }
+            self.operator.size = size;
             self.seen.resized += 1;
         }
         self.end_task();
+        Ok(())
     }
 
     /// Whether a machine may take part no more.

@@ -104,6 +104,8 @@ pub enum What {
     CrashInCalls(u8),
     /// Nothing goes from it, nor comes to it.
     Apart(bool),
+    /// The same of it and of one other machine, which reach one another.
+    Split(u8, bool),
     /// It is gone for good, and another one takes its number.
     Replace,
     /// It loses its power, and comes back with an older copy of its disk. Where it notices that, it is replaced.
@@ -149,6 +151,9 @@ impl fmt::Display for Trouble {
                 format!("is cut off from {other}{}", if is_reported { "" } else { " in silence" })
             }
             What::Apart(is_reported) => format!("is cut off from all{}", if is_reported { "" } else { " in silence" }),
+            What::Split(other, is_reported) => {
+                format!("is with {other} cut off from all others{}", if is_reported { "" } else { " in silence" })
+            }
             What::Replace => "is replaced by another one".into(),
             What::Older(age) => format!("loses its power, and comes back with an older copy of its disk: {age:?}"),
             What::Lie => "has a disk that says what isn't so".into(),
@@ -232,8 +237,27 @@ impl Plan {
             plan.end();
             plan.resize();
             plan.set_back();
+            plan.split();
         }
         plan
+    }
+
+    /// Where there are five machines or more at last, some that would be cut off from all are so with another one.
+    fn split(&mut self) {
+        let resized = self
+            .troubles
+            .iter()
+            .map(|trouble| if let What::Resize(cluster) = trouble.what { cluster } else { self.cluster });
+        let most = resized.map(Cluster::replicas).max().unwrap_or_default();
+        for (number, trouble) in (0..).zip(&mut self.troubles).filter(|_| most > 3) {
+            let chance = mixed(self.seed ^ number << 32 ^ 0x7370);
+            if let What::Apart(is_reported) = trouble.what
+                && chance % 2 == 0
+            {
+                let other = (trouble.machine + 1 + (chance >> 8) as u8 % 4) % 5;
+                trouble.what = What::Split(other, is_reported);
+            }
+        }
     }
 
     /// In one plan of four some that would lose their power are asked to end.

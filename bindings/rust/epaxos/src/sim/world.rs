@@ -430,6 +430,7 @@ impl<'a> World<'a> {
             Event::Turn(machine) => self.turn(machine),
             Event::Frame { from, to, bytes } => {
                 self.seen.note(&[from, to], &bytes);
+                self.operator.hear(from, to);
                 let now = self.clock(to, self.now);
                 let it = self.machine(to);
                 let Some(host) = &mut it.host else { return Ok(()) };
@@ -928,8 +929,7 @@ impl<'a> World<'a> {
     fn take_reply(&mut self, machine: u8, reply: Reply) -> Result<(), Failure> {
         let Reply { token, told: outcome } = reply;
         if self.operator.is_its(token) {
-            self.operator_answered(token, &outcome);
-            return Ok(());
+            return self.operator_answered(token, &outcome);
         }
         self.seen.note(&[machine, 251], &token.to_be_bytes());
         let now = self.now;
@@ -1174,14 +1174,8 @@ impl<'a> World<'a> {
                 self.cut((machine, other), is_reported);
                 self.after(lasts, Event::Mended(machine, other, is_reported));
             }
-            What::Apart(is_reported) => {
-                let others: Vec<u8> = (0..self.count()).filter(|other| *other != machine).collect();
-                self.unhealed += others.len() - 1;
-                for other in others {
-                    self.cut((machine, other), is_reported);
-                    self.after(lasts, Event::Mended(machine, other, is_reported));
-                }
-            }
+            What::Apart(is_reported) => self.cut_off(&[machine], is_reported, lasts),
+            What::Split(other, is_reported) => self.cut_off(&[machine, other], is_reported, lasts),
             What::Replace if self.may_lose(machine) => {
                 if self.machine(machine).host.is_some() {
                     self.stop(machine, None);
@@ -1198,6 +1192,16 @@ impl<'a> World<'a> {
             _ => self.unhealed -= 1,
         }
         Ok(())
+    }
+
+    /// These are cut off from all others for so long.
+    fn cut_off(&mut self, some: &[u8], is_reported: bool, lasts: u64) {
+        let others: Vec<u8> = (0..self.count()).filter(|other| !some.contains(other)).collect();
+        self.unhealed += some.len() * others.len() - 1;
+        for (one, other) in some.iter().flat_map(|one| others.iter().map(move |other| (*one, *other))) {
+            self.cut((one, other), is_reported);
+            self.after(lasts, Event::Mended(one, other, is_reported));
+        }
     }
 
     fn cut(&mut self, (one, other): (u8, u8), is_reported: bool) {
