@@ -40,8 +40,9 @@ impl fmt::Display for StopFault {
         match self {
             StopFault::Host(HostFault::Forgotten { peer, generation, seen, entries }) => write!(
                 f,
-                "replica {peer} has seen entry {seen} of this one in generation {generation}, and here are {entries} entries: \
-                 the folder is an older copy. This replica must not come back with it: it has forgotten what it promised"
+                "replica {peer} has seen entry {seen} of this one in generation {generation}, and here are {entries} \
+                 entries: the folder is an older copy. This replica must not come back with it: it has forgotten \
+                 what it promised"
             ),
             StopFault::Host(HostFault::Disowned { generation, instance }) => write!(
                 f,

@@ -105,7 +105,8 @@ impl Host {
     /// [`Told::Changed`], when a generation has begun in which it is so, or [`Told::Refused`].
     ///
     /// It is granted only where majorities of the present generation, and of the next one, answer a question that is
-    /// asked for it, within some seconds. Machines are named by their identities ([`Settings::identity`](super::Settings::identity)), and wait to be let in by
+    /// asked for it, within some seconds. Machines are named by their identities
+    /// ([`Settings::identity`](super::Settings::identity)), and wait to be let in by
     /// [`Host::join`]. A machine that is replaced, or isn't among fewer replicas, ends with [`HostFault::Replaced`] or
     /// [`HostFault::Left`], and must not come back.
     ///
@@ -147,7 +148,8 @@ impl Host {
         }
     }
 
-    /// Whether a wish would be granted now, where all answer that are reached, and isn't so by now: what [`wish`](Host::wish) would be answered at once is
+    /// Whether a wish would be granted now, where all answer that are reached, and isn't so by now: what
+    /// [`wish`](Host::wish) would be answered at once is
     /// `Ok(false)`, or the refusal.
     ///
     /// # Errors
