@@ -36,7 +36,7 @@ def counted(well):
 
 
 def build():
-    """Builds the programs and the library, where the kit is there. (Rows give most of these programs some time.)"""
+    """Builds the programs and the library, where the kit is there. (A row of the optimised one may take 120 s.)"""
     return counted([store.is_well([f"{TOP}/tools/unproved", "--quick", "--but", "ep_main"])])
 
 
