@@ -194,17 +194,17 @@ pub fn run(options: &Options, cluster: &Cluster) -> Result<Vec<String>, String> 
     for trouble in &options.troubles {
         trouble_at(options, cluster, *trouble, &mut found)?;
     }
-    let added = added(cluster, sites)?;
+    let added = added(options, cluster)?;
     println!("{} ms without distance", added.as_millis());
     let late = found.judged.into_iter().filter(|it| it.took > it.may + added * it.times).map(|it| it.fault);
     Ok(found.faults.into_iter().chain(late).collect())
 }
 
 /// What the machine adds to a command: half of them take no longer over links that take no time.
-fn added(cluster: &Cluster, sites: &Sites) -> Result<Duration, String> {
+fn added(options: &Options, cluster: &Cluster) -> Result<Duration, String> {
     cluster.links.iter().flatten().flatten().for_each(|link| link.set_delay(Duration::ZERO));
     let end = WARM + SETTLING;
-    let all = play(cluster, sites, (0, 0), end, || Ok(()))?;
+    let all = play(options, cluster, (0, 0), end, || Ok(()))?;
     let medians = all.iter().filter_map(|commands| part(&waits(commands, WARM, end, |_| true), 50));
     Ok(medians.max().unwrap_or_default())
 }
