@@ -36,8 +36,8 @@ def counted(well):
 
 
 def build():
-    """Builds the programs and the library, where the kit is there. (A row of the optimised one may take 120 s.)"""
-    return counted([store.is_well([f"{TOP}/tools/unproved", "--quick", "--but", "ep_main"])])
+    """Builds the programs and the library, where the kit is there. (Rows and tests of hosts take long.)"""
+    return counted([store.is_well([f"{TOP}/tools/unproved", "--quick", "--but", "ep_main,ep_library"])])
 
 
 def is_built(what):
