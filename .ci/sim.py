@@ -1,6 +1,6 @@
 """Simulated clusters of hosts (`epaxos::sim` of bindings/rust/epaxos), over the library: the first 600 seeds; the first
 20 once more, whose logs and receipts are audited, as chains; and all planted faults, each of which has to be found by
-one of the first 1,000 seeds. The seed of a run that fails is printed, with the run shrunk. Then a host's folder, as the
+one of the first 2,000 seeds. The seed of a run that fails is printed, with the run shrunk. Then a host's folder, as the
 power is lost (.ci/disks/hosts.py). Runs alone too: python3 .ci/sim.py [NODE PROGRAM [FOLDER [SEEDS]]], of other builds,
 with the folder that libepaxos.a is in.
 """
@@ -45,7 +45,7 @@ def tried(node=BUILT[0], program=BUILT[1], library=None, seeds=SEEDS):
             if has_programs(node, program, "audits of simulated hosts"):
                 audit = ["--audit", joined(scratch, node, program)]
                 well.append(is_well([*sim, "--seeds", str(AUDITED), *audit]))
-            well.append(is_well([*sim, "--seeds", "1000", "--plant", "all"]))
+            well.append(is_well([*sim, "--seeds", "2000", "--plant", "all"]))
             passed, failed = hosts.tried(power)
             well += [True] * passed + [False] * failed
     return well.count(True), well.count(False)

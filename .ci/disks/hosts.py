@@ -211,7 +211,8 @@ def is_marked(case):
     case.lose_power()
     shutil.rmtree(f"{case.place}/{newest}")
     case.start()
-    case.wants(case.status == 1 and f"Left({newest})" in case.errors, f"status {case.status}, {case.errors.strip()}")
+    said = f"the replica has been in generation {newest}, which is gone"
+    case.wants(case.status == 1 and said in case.errors, f"status {case.status}, {case.errors.strip()}")
 
 
 def short(line):

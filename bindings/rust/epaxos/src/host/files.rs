@@ -42,10 +42,11 @@ impl Files {
     }
 
     /// Whether an opening is to be written: where the logs since the last one have so many bytes, and as many as that
-    /// one. Replicas take turns, a generation each, so that a majority is always free.
+    /// one. Replicas take turns, a generation each, so that a majority is always free; where the least is 0, all write
+    /// each.
     pub(super) fn is_due(&self, least: u64, Place { replicas, replica }: Place) -> bool {
         let is_own = |(reference, _): &(Reference, Checkpoint)| {
-            (reference.generation() as usize - 1) % replicas == usize::from(replica)
+            least == 0 || (reference.generation() as usize - 1) % replicas == usize::from(replica)
         };
         self.unwritten.as_ref().is_some_and(is_own) && self.logs() >= self.whole.1.max(least)
     }

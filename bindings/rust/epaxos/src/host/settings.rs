@@ -33,7 +33,7 @@ pub struct Settings {
     /// A generation is sealed once its log has so many bytes.
     pub log: u64,
     /// The file that a generation opens with is written once the logs since the last one have so many bytes, and as
-    /// many as that one, by one replica after the other.
+    /// many as that one, by one replica after the other. 0: by each at each generation.
     pub checkpoint: u64,
     /// A call that can't be proposed is held for so long, and then refused.
     pub patience: Duration,
