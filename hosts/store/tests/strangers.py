@@ -276,8 +276,8 @@ def judge_older(cluster, last):
         status = cluster.running[2].poll()
         if status is not None:
             print(f"the older copy ends with status {status}: {cluster.told(2).splitlines()[-1]}", flush=True)
-            if status != 3:
-                fault("an older copy ends by another status than 3")
+            if status != 4:
+                fault("an older copy ends by another status than 4")
             return
         try:
             generation = redis.Redis(port=cluster.clients[2], socket_timeout=5).info().get("generation", 0)

@@ -145,7 +145,7 @@ fn what_fails_is_shrunk() {
     let trial = Trial { wrong: Wrong::Forgets, ..Trial::default() };
     let (seed, _) = found(Wrong::Forgets, 25).unwrap();
     let (least, whole) = (shrunk_machine(&plan(seed), &trial), plan(seed));
-    assert!(least.asks < whole.asks && least.troubles.len() <= 1, "{least}");
+    assert!(least.asks < whole.asks && least.troubles.len() <= 2, "{least}");
     assert!(matches!(run_machine(&least, &trial).1, Some(Failure::Machine(_))));
     // Where nothing starts again and no opening is taken it isn't seen.
     let calm = (1..).map(plan).find(|plan| plan.is_calm() && plan.cluster == Cluster::Three).unwrap();
