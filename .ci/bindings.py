@@ -53,7 +53,9 @@ def is_checked_without(environment, scratch):
     """Whether the crate is checked and documented where no library was ever built, and a program says what is missing."""
     shutil.copytree(CRATE, f"{scratch}/alone", ignore=shutil.ignore_patterns("target", "lib"))
     how = {"cwd": f"{scratch}/alone", "stdin": subprocess.DEVNULL, "stderr": subprocess.PIPE, "text": True}
+    # (cargo takes a build script of the same text for the same, wherever it is, and with it the library that it found)
     how["env"] = {name: it for name, it in environment.items() if name != "EPAXOS_LIBRARY"}
+    how["env"]["CARGO_TARGET_DIR"] = f"{scratch}/alone-target"
     tried = (["check", "--examples"], ["doc", "--no-deps"], ["build", "--example", "lock"])
     runs = [subprocess.run(["cargo", it[0], "--offline", *it[1:]], **how) for it in tried]
     return [it.returncode for it in runs[:2]] == [0, 0] and runs[2].returncode and "there is no libepaxos.a" in runs[2].stderr
