@@ -1,5 +1,5 @@
 """What a proved build takes of an earlier build, and of what `rt ci` kept, where the kit keeps something: in a few
-crates of which nothing is proved; files stand in for what a proof makes. Runs alone too: python3 .ci/kept.py
+crates without proofs; files stand in for what a proof makes. Runs alone too: python3 .ci/kept.py
 """
 
 import os

@@ -32,7 +32,7 @@ CUT = b"EPJB\2\3"
 # a bundle in which replica 1 handled a frame that nobody sent: .ci/rows/audit-unsent-frame
 UNSENT = f"{TOP}/.ci/rows/audit-unsent-frame/stdin.hex"
 COMMANDS = rows.commands()
-# and those of which tools have some
+# those that commands.txt lists, also of tools
 with open(f"{TOP}/commands.txt", encoding="utf-8") as file:
     LISTED = re.findall(r"(?m)^([a-z-]+) \S+: ", file.read())
 # what a terminal adds to the refusal of a script, and of a bundle

@@ -29,7 +29,7 @@ from dataclasses import dataclass, field, replace
 
 sys.dont_write_bytecode = True
 TOP = os.path.dirname(os.path.dirname(os.path.abspath(__file__)))
-# after so many seconds a run hangs, also where the machine has a load of 50
+# a run that takes longer, in seconds, hangs, even on a machine with a load of 50
 SECONDS = 600
 
 

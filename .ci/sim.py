@@ -1,6 +1,6 @@
 """Simulated clusters of hosts (`epaxos::sim` of bindings/rust/epaxos), over the library: the first 600 seeds; the first
-20 once more, whose logs and receipts are audited, as chains; and all planted faults, each of which has to be found by
-one of the first 2,000 seeds. The seed of a run that fails is printed, with the run shrunk. Then a host's folder, as the
+20 once more, whose logs and receipts are audited, as chains; and all planted faults: one of the first 2,000 seeds has
+to find each. The seed of a run that fails is printed, with the run shrunk. Then a host's folder, as the
 power is lost (.ci/disks/hosts.py). Runs alone too: python3 .ci/sim.py [NODE PROGRAM [FOLDER [SEEDS]]], of other builds,
 with the folder that libepaxos.a is in.
 """

@@ -23,7 +23,7 @@ use std::sync::{Arc, mpsc};
 use std::time::{Duration, Instant};
 use std::{env, io, thread};
 
-/// In so many runs machines come back with older copies of their disks, some of which have to be noticed.
+/// With this many runs machines come back with older copies of their disks, and some of these have to be noticed.
 const MANY: u64 = 200;
 
 /// What is asked for.

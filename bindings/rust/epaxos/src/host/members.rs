@@ -32,8 +32,7 @@ impl Asking {
     }
 }
 
-/// The machines, of which those count that have answered since something was wished, or have said since then that they
-/// wait.
+/// The machines that have answered since the wish, or have said since then that they wait.
 struct Answered<'a>(&'a Host, Instant);
 
 impl Machines for Answered<'_> {
