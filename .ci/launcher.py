@@ -38,6 +38,8 @@ with open(f"{TOP}/commands.txt", encoding="utf-8") as file:
 # what a terminal adds to the refusal of a script, and of a bundle
 FOUR_WHY = "  line 1, word 2: 4 is out of range: how many replicas there are, 3, 5 or 7\n"
 CUT_WHY = "  do: copy the bundle again from where it was made, or make it anew from the logs by `epaxos collect`\n"
+# the commands of tools, and a word that each doesn't take
+OF_TOOLS = {"up": "now", "status": "now", "kill": "3", "replace": "", "down": "1", "test": "now"}
 OLD = "epaxos {}: it is `epaxos {}` now, and these words go with the next version\n"
 
 # In the place of the build: leaves the program that is asked for, and notes the words.
@@ -372,6 +374,21 @@ def without_python(room):
         yield f"{words}, without Python", room.run(words, under="PATH=/nowhere /bin/bash"), (69, "", said.format(what))
 
 
+def of_tools(room):
+    """The tools' commands have help, each its own, and refuse other words."""
+    for name in (".ci/test", "hosts/store/cluster"):
+        os.makedirs(os.path.dirname(f"{room.top}/{name}"))
+        shutil.copy2(f"{TOP}/{name}", f"{room.top}/{name}")
+    for command, word in OF_TOOLS.items():
+        helped = room.run(f"{command} --help")
+        is_named = f"epaxos {command}" in helped[1].partition("\n")[0]
+        yield f"{command} --help", (helped[0], is_named, helped[2]), (0, True, "")
+        for words in (f"help {command}", f"{command} -h"):
+            yield words, room.run(words), helped
+        status, wrote, told = room.run(f"{command} {word}")
+        yield f"{command} {word}", (status, wrote, told.endswith(helped[1])), (2, "", True)
+
+
 def builds(room):
     """How a build says how far it is."""
     line = r"epaxos: 0 of 2 crates proved, at ep_base \(0 min \d\d s\)"
@@ -384,12 +401,15 @@ def builds(room):
     yield "a long build, on a terminal", (status, bool(re.fullmatch(rf"(\r\033\[K{line}){{4,}}", seen))), (0, True)
 
 
+PARTS = (fixed, chosen, belonging, cheap, shown, coloured, without_python, of_tools, builds)
+
+
 def tried():
     """Makes all runs, prints a line for each that fails, and returns how many passed and how many failed."""
     passed = failed = 0
     with tempfile.TemporaryDirectory() as top:
         room = Room(top)
-        for part in (fixed, chosen, belonging, cheap, shown, coloured, without_python, builds):
+        for part in PARTS:
             for name, found, wanted in part(room):
                 is_well = found == wanted
                 passed, failed = passed + is_well, failed + (not is_well)

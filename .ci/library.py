@@ -76,6 +76,16 @@ def built(compiler, scratch, archive):
     yield lines([f"{scratch}/{compiler}-generations"]) == "generation 4, and each start is in it\n"
 
 
+def of_page(compiler, scratch, archive):
+    """Whether the program that the page begins with is built and prints what the page says."""
+    with open(f"{FOLDER}/README.md", encoding="utf-8") as file:
+        program, wanted = re.search(r"(?ms)^```c\n(.*?)^```\n.*?`(to replica .*?)`", file.read()).groups()
+    with open(f"{scratch}/put.c", "w", encoding="utf-8") as file:
+        file.write(program.replace("/tmp/", f"{scratch}/"))
+    is_built = is_well([compiler, *STRICT, f"-I{FOLDER}", f"{scratch}/put.c", archive, "-o", f"{scratch}/put"])
+    return is_built and lines([f"{scratch}/put"]) == f"{wanted}\n"
+
+
 def example(compiler, scratch, node, program):
     """Whether the example runs, goes on with what it left, and is audited."""
     logs = f"{scratch}/{compiler}-logs"
@@ -98,7 +108,8 @@ def tried(archive=None, node=BUILT[0], program=BUILT[1]):
     if compilers and os.path.isfile(archive):
         with tempfile.TemporaryDirectory(prefix="epaxos-library-") as scratch:
             for compiler in compilers:
-                well += [*built(compiler, scratch, archive), *example(compiler, scratch, node, program)]
+                well += [*built(compiler, scratch, archive), of_page(compiler, scratch, archive)]
+                well += example(compiler, scratch, node, program)
             if needs.has("g++", "the C header in C++"):
                 with open(f"{scratch}/header.cc", "w", encoding="ascii") as file:
                     file.write('#include "epaxos.h"\n#include "epaxos_answers.h"\nint main() { return ep_version() != EP_VERSION; }\n')

@@ -1,14 +1,4 @@
-//! Simulated clusters, by seeds: cargo run --release --example sim -- [--seeds N] [--first SEED] [--seed SEED]
-//! [--seconds S] [--plant NAME,...] [--audit EPAXOS] [--show EPAXOS] [--folder FOLDER] [--lies] [--day ASKS]
-//! [--mix PUTS,DELS,NEWS,READS,GETS,PAIRS,MACHINE] [--threads N]
-//!
-//! Runs so many seeds (100), or as many as go into so many seconds, from one on, and says what was seen. The first run
-//! that isn't right is shrunk and shown, and the status is 1. What it leaves goes into the folder (or one among
-//! temporary files): `--show` has that program make a bundle of each generation there, with what `explain` and `show`
-//! say of it, and its page, by `draw`; without it the words for that are said. `--audit` has that program audit what
-//! each run leaves. `--lies` has disks that lie, against which nothing is promised, and counts what notices it. `--day`
-//! runs one day of five machines in five regions. `--mix` says what clients ask for. `--plant` takes faults (with
-//! `--features plants`), or `all`, and says which seed has found each; where it is one, that run is shrunk and shown.
+//! Simulated clusters, by seeds: `cargo run --release --example sim -- --help`.
 #![forbid(unsafe_code)]
 
 use epaxos::host::Plant;
@@ -22,6 +12,30 @@ use std::sync::atomic::{AtomicBool, AtomicU64, Ordering};
 use std::sync::{Arc, mpsc};
 use std::time::{Duration, Instant};
 use std::{env, io, thread};
+
+/// What `--help` prints.
+const HELP: &str = "\
+Simulated clusters, by seeds: each is a run of hosts whose machines, disks and network fail.
+
+usage: sim [OPTION]..          (cargo run --release --example sim -- [OPTION]..)
+
+  --seeds N          so many seeds; without it 100
+  --first SEED       from this seed on; without it from 1
+  --seed SEED        this seed alone
+  --seconds S        as many seeds as go into so many seconds
+  --threads N        so many seeds side by side; without it 1
+  --mix PUTS,DELS,NEWS,READS,GETS,PAIRS,MACHINE    what clients ask for, by weight
+  --day ASKS         one day of five machines in five regions, with so many questions of clients
+  --lies             disks lie, against which nothing is promised: counts what notices it
+  --audit EPAXOS     has this program audit what each run leaves
+  --plant NAME,..    plants each of these faults, or `all`, and prints the seed that finds it (needs --features plants)
+  --folder FOLDER    where a failed run is left; without it a folder among temporary files
+  --show EPAXOS      has this program make bundles and pages of a failed run, and explain them; without it the commands
+                     for that are printed
+
+The first run that fails is shrunk and shown, and the status is 1. A planted fault is, where it is the only one; then
+the status is 1 if it isn't found.
+";
 
 /// With this many runs machines come back with older copies of their disks, and some of these have to be noticed.
 const MANY: u64 = 200;
@@ -219,6 +233,10 @@ fn first_line(text: &[u8]) -> String {
 }
 
 fn main() -> ExitCode {
+    if env::args().skip(1).any(|word| word == "--help" || word == "-h") {
+        print!("{HELP}");
+        return ExitCode::SUCCESS;
+    }
     let options = match options() {
         Ok(options) => Arc::new(options),
         Err(why) => {

@@ -11,7 +11,9 @@
 //! let link = TcpLink::new(0, &addresses)?;
 //! // At the first start of the cluster `Start::New`; at each later one `Start::Again`; of a machine that takes
 //! // the place of one that is gone `Start::Join`.
-//! let service = Service::start(&Settings::new(Cluster::Three, 0), Start::New, Folder::open("/var/lib/mine")?, link)?;
+//! // (a seed that differs at each replica and each start: their random waits do then)
+//! let settings = Settings { seed: std::process::id().into(), ..Settings::new(Cluster::Three, 0) };
+//! let service = Service::start(&settings, Start::New, Folder::open("/var/lib/mine")?, link)?;
 //! service.call(OwnedCommand::Put { key: b"x".into(), value: b"1".into() })?;
 //! assert_eq!(service.read(b"x")?, Some(b"1".into()));
 //! # Ok(()) }
