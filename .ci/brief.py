@@ -88,5 +88,6 @@ def simulator():
     """Simulated clusters of hosts, by fixed seeds."""
     if not (is_built("simulated hosts") and needs.has("cargo", "simulated hosts")):
         return 0, 0
-    words = ["cargo", "run", "--offline", "--quiet", "--example", "sim", "--", "--threads", "2", "--seeds", SEEDS]
+    # (with all features, as the crate's tests have been built)
+    words = ["cargo", "run", "--offline", "--quiet", "--all-features", "--example", "sim", "--", "--seeds", SEEDS]
     return cargo(CRATE, words)

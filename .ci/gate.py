@@ -4,7 +4,8 @@
                       which looks whether pages and copies are up to date, fails, no other is run
   .ci/run --all       the same, and tries all wrong bodies, not only some that changed and ten more
   .ci/run --built     runs only the parts that go over the programs that an earlier `rt ci` built
-  .ci/run --brief     runs what `./epaxos test` does (.ci/brief.py), in minutes; `./epaxos test --all` is .ci/run
+  .ci/run --brief     runs what `./epaxos test` does (.ci/brief.py), in minutes, a part on each processor; `./epaxos test --all` is .ci/run
+  .ci/run --brief PART    runs this part of that alone
 
 As root on Debian it first installs what tools/needs.txt lists. At its end it says what processor time each part took, and what
 it skipped; its last line is 'N passed, M failed', with ', K skipped' where something was. The status is 0 where M is 0.
@@ -18,6 +19,7 @@ import sys
 import tempfile
 import time
 import traceback
+from concurrent.futures import ThreadPoolExecutor
 from dataclasses import dataclass
 
 sys.dont_write_bytecode = True
@@ -84,6 +86,8 @@ ROWS_VIEWED = ("audit-of-another-value", "audit-of-another-entry", "audit-cut", 
 
 # lines on what failed, and warnings, said again at the end: who reads only that finds them
 AGAIN = []
+# the processes of parts that run by themselves
+APART = set()
 
 
 def looks():
@@ -304,14 +308,15 @@ PARTS = (
     Part("simulated hosts", sim.tried),
     Part("release", release.of_gate),
 )
+# (what takes longest comes first, behind the build)
 BRIEF = (
-    Part("pages and copies", brief.looks),
     Part("build", brief.build),
-    Part("rows", brief.worked_rows),
     Part("tests/", brief.tests),
-    Part("bindings/rust", brief.crate),
+    Part("rows", brief.worked_rows),
     Part("hosts/store", brief.hosts),
+    Part("bindings/rust", brief.crate),
     Part("simulated hosts", brief.simulator),
+    Part("pages and copies", brief.looks),
 )
 
 
@@ -320,37 +325,87 @@ def processor_time():
     return sum(os.times()[:4])
 
 
+def run(part):
+    """Runs a part: how many passed, how many failed, and the lines on it."""
+    processor, began, lines = processor_time(), time.monotonic(), []
+    try:
+        counts = part.call()
+    except Exception:
+        # (what a part's own code can't do is one that failed: the others are run)
+        said = traceback.format_exc()
+        print(said, end="", flush=True)
+        lines.append(f"{part.name}: {said.splitlines()[-1]}")
+        counts = 0, 1
+    minutes = (processor_time() - processor) / 60, (time.monotonic() - began) / 60
+    counted = "%s: %d passed, %d failed" % (part.name, *counts)
+    told = counted + ", %.1f minutes of processor time, %.1f by the clock" % minutes
+    return *counts, [*lines, told]
+
+
+def run_apart(part):
+    """The same in a process of its own, whose output is shown once it has ended."""
+    with tempfile.TemporaryFile("w+", encoding="utf-8", errors="replace") as file:
+        words = [sys.executable, __file__, "--brief", part.name]
+        running = subprocess.Popen(words, stdin=subprocess.DEVNULL, stdout=file)
+        APART.add(running)
+        running.wait()
+        APART.discard(running)
+        file.seek(0)
+        wrote, _, told = file.read().rpartition(f"{part.name}: ")
+    counts = re.match(r"(\d+) passed, (\d+) failed, ", told)
+    if not counts:
+        return 0, 1, [f"{wrote}{part.name}: {told or 'it ended without a word'}"]
+    print(wrote, end="", flush=True)
+    return int(counts[1]), int(counts[2]), [f"{part.name}: {told.splitlines()[0]}"]
+
+
+def side_by_side(parts):
+    """Runs parts, the first of them alone, since the others need what it builds: of each what `run` gives."""
+    yield run(parts[0])
+    with ThreadPoolExecutor(lanes.processors()) as room:
+        yield from room.map(run_apart, parts[1:])
+
+
+def in_turn(parts):
+    """Runs parts one after the other, but none behind one on pages and copies that fails."""
+    for part in parts:
+        passed, failed, lines = run(part)
+        yield passed, failed, lines
+        if part.call is looks and failed:
+            return
+
+
+def stop(*_):
+    """Ends this process, and those of parts."""
+    for it in [*APART]:
+        it.terminate()
+    sys.exit(143)
+
+
+def chosen(words):
+    """The parts that are to run, and how."""
+    if words[:1] == ["--brief"]:
+        named = [it for it in BRIEF if it.name in words[1:]]
+        return in_turn(named) if named else side_by_side(BRIEF)
+    return in_turn([it for it in PARTS if it.is_of_built or words != ["--built"]])
+
+
 def main(words):
     if words in (["--help"], ["-h"]):
         print(__doc__, end="")
         return 0
-    if words not in ([], ["--all"], ["--built"], ["--brief"]):
+    if words not in ([], ["--all"], ["--built"], ["--brief"], *(["--brief", it.name] for it in BRIEF)):
         print(__doc__, end="", file=sys.stderr)
         return 2
     os.chdir(TOP)
-    signal.signal(signal.SIGTERM, lambda *_: sys.exit(143))
+    signal.signal(signal.SIGTERM, stop)
     lanes.one_processor_a_check()
     told, passed, failed = [], 0, 0
-    is_brief = words == ["--brief"]
-    needs.install(needs.lacking("test" if is_brief else "gate"))
+    if len(words) < 2:
+        needs.install(needs.lacking("test" if words == ["--brief"] else "gate"))
     with clock.Clock() as spent, needs.noting() as skipped:
-        for part in BRIEF if is_brief else PARTS:
-            if words == ["--built"] and not part.is_of_built:
-                continue
-            processor, began = processor_time(), time.monotonic()
-            try:
-                counts = part.call()
-            except Exception:
-                # (what a part's own code can't do is one that failed: the others are run)
-                said = traceback.format_exc()
-                print(said, end="", flush=True)
-                AGAIN.append(f"{part.name}: {said.splitlines()[-1]}")
-                counts = 0, 1
-            passed, failed = passed + counts[0], failed + counts[1]
-            minutes = (processor_time() - processor) / 60, (time.monotonic() - began) / 60
-            told.append("%s: %d passed, %d failed, %.1f minutes of processor time, %.1f by the clock" % (part.name, *counts, *minutes))
-            if part.call is looks and failed:
-                break
+        for one, other, lines in chosen(words):
+            passed, failed, told = passed + one, failed + other, told + lines
     print(*AGAIN, *told, *spent.lines(), *skipped, sep="\n")
     print(f"{passed} passed, {failed} failed{f', {len(skipped)} skipped' * bool(skipped)}", flush=True)
     return 1 if failed else 0

@@ -101,6 +101,10 @@ def skip(what, why):
 def noting():
     """Gives a list that has, behind it, each line on what was skipped here and in the processes below."""
     lines = []
+    if SKIPS in os.environ:
+        # (whoever began this process lists them)
+        yield lines
+        return
     with tempfile.NamedTemporaryFile("r", encoding="utf-8") as file:
         os.environ[SKIPS] = file.name
         yield lines
