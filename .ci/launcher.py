@@ -108,7 +108,7 @@ class Room:
 
     def run(self, words, given="", redirect="", quiet=None, under=""):
         """The status, the output and the fault output of a call in the shell."""
-        how = {"shell": True, "executable": "/bin/bash", "cwd": self.top, "timeout": 60, "stdout": subprocess.PIPE, "stderr": subprocess.PIPE}
+        how = {"shell": True, "executable": "/bin/bash", "cwd": self.top, "timeout": rows.SECONDS, "stdout": subprocess.PIPE, "stderr": subprocess.PIPE}
         environment = {it: value for it, value in os.environ.items() if it != "EPAXOS_QUIET"}
         if quiet is not None:
             environment["EPAXOS_QUIET"] = quiet

@@ -204,18 +204,16 @@ fn connections_that_say_nothing_keep_nobody_from_asking_how_it_is() {
 #[test]
 fn how_it_is_where_the_core_is_slow_or_alone() {
     let mut metrics = None;
-    let memory = Memory::start_with("slow", Duration::from_secs(20), |it| metrics = Some(it.metrics.clone()));
+    // (the core takes an hour: who is answered doesn't wait for it)
+    let memory = Memory::start_with("slow", Duration::from_secs(3_600), |it| metrics = Some(it.metrics.clone()));
     let metrics = metrics.unwrap();
     let mut slow = memory.client();
     slow.send(&[&[b"SET", b"x", b"1"]]).unwrap();
     std::thread::sleep(Duration::from_millis(100));
-    let start = Instant::now();
     let mut client = memory.client();
     assert_eq!(ask(&mut client, "PING"), Reply::Simple("PONG".into()));
     let Reply::Bulk(Some(text)) = ask(&mut client, "INFO") else { panic!() };
     assert!(text.starts_with(b"core_is_slow:1\r\n"), "{}", String::from_utf8_lossy(&text));
-    // (sooner than the core, which takes 20 s)
-    assert!(start.elapsed() < Duration::from_secs(19));
     metrics.takes_part.set(0);
     assert_eq!(ask(&mut client, "PING"), refused(CommandFault::Apart));
 }
