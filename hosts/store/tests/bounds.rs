@@ -129,9 +129,8 @@ fn who_takes_no_replies_shuts_nobody_out() {
         // Each has asked for as much as nearly all of the memory, and is closed once it has its part.
         wait("the slow ones' end", || closed() == slow.len());
         assert!(number("clients_memory") < most / 16);
-        // Who reads gets all of as much. (Before its first long reply more may be in flight than it may have.)
+        // Who reads gets all of as much.
         let long = Reply::Bulk(Some(vec![b'v'; 60_000]));
-        assert_eq!(client.ask(&[b"GET", b"x"]).unwrap(), long);
         assert_eq!(client.send(&vec![&[&b"GET"[..], b"x"][..]; 1_000]).ok(), Some(()));
         (0..1_000).for_each(|_| assert_eq!(client.read().unwrap(), long));
         assert_eq!(closed(), slow.len());

@@ -1,7 +1,7 @@
 //! What commands do to one key: a function from what lies there to what then lies there, and the reply.
 use crate::client::command_fault::CommandFault;
 use crate::client::resp::Reply;
-use crate::core::stored::{Holder, LONGEST_CONTENT, Lock, Stored};
+use crate::core::stored::{Holder, LONGEST_CONTENT, LONGEST_OWNER, Lock, Stored};
 
 /// What is done to a key. Deadlines are in milliseconds since 1970, by the wall clock of the replica that was asked.
 #[derive(Clone, PartialEq, Eq, Debug)]
@@ -143,6 +143,17 @@ impl Action {
                 | Action::Deadline(_)
                 | Action::Holder
         )
+    }
+
+    /// How many bytes its reply takes at most.
+    pub fn longest_reply(&self) -> usize {
+        let tells = match self {
+            Action::Get | Action::Peek | Action::GetDelete | Action::GetExpire(_) => LONGEST_CONTENT,
+            Action::Set(Set { reply: SetReply::Before, .. }) => LONGEST_CONTENT,
+            Action::Holder => LONGEST_OWNER + 2 * size_of::<Reply>(),
+            _ => 0,
+        };
+        size_of::<Reply>() + tells
     }
 
     /// Does it at this time. What is past its deadline isn't there. Where it can't be done nothing changes.
@@ -471,6 +482,7 @@ mod tests {
             for stored in all_stored() {
                 let live = stored.clone().filter(|stored| !stored.is_over(NOW));
                 let (after, reply) = action.apply(stored.clone(), NOW);
+                assert!(reply.size() <= action.longest_reply(), "{action:?} of {stored:?}");
                 if action.is_blind() {
                     let (blindly, blind_reply) = action.apply(None, NOW);
                     assert_eq!(after, blindly, "{action:?} of {stored:?}");

@@ -8,7 +8,7 @@ use crate::client::door::{Door, Waiting};
 use crate::client::memory::Memory;
 use crate::client::outbox::{Message, Messages, Outbox};
 use crate::client::password::Password;
-use crate::client::replies::{Due, ReplyTo};
+use crate::client::replies::{Due, ReplyTo, SLICE};
 use crate::client::resp::{Reply, Version};
 use crate::client::session::{CHUNK, Session};
 use crate::core::keys::{Keys, Wanted};
@@ -228,7 +228,7 @@ impl Clients {
     /// Closes connections whose clients take no replies, first those that have most memory, until enough is free.
     fn make_room(&mut self) {
         // (who takes some isn't among them; an error comes again)
-        self.sessions.values_mut().for_each(|session| _ = session.send());
+        self.sessions.values_mut().for_each(|session| _ = session.send(&mut SLICE.clone()));
         while self.shared.memory.is_short() {
             let stuck = self.sessions.iter().filter(|(_, session)| session.is_stuck());
             let Some((id, session)) = stuck.max_by_key(|(_, session)| session.unsent()) else { return };
@@ -245,11 +245,12 @@ impl Clients {
         }
     }
 
-    /// Sends what there is to be sent, and goes on with what has come: whether more may be read.
+    /// Sends a slice of what there is to be sent, and goes on with what has come: whether there is more to be done.
     fn tend(&mut self, id: u64) -> bool {
         let Some(session) = self.sessions.get_mut(&id) else { return false };
+        let mut slice = SLICE;
         loop {
-            let is_sent = session.send().is_ok();
+            let is_sent = session.send(&mut slice).is_ok();
             if !is_sent || session.is_over() {
                 session.end();
                 self.sessions.remove(&id);
@@ -261,7 +262,7 @@ impl Clients {
             }
         }
         self.next_look = self.next_look.min(session.due());
-        session.may_read()
+        session.is_ready()
     }
 
     /// Takes connections, some at a time. Those that find no place wait at the door.

@@ -6,7 +6,7 @@
 use crate::client::actions::Action;
 use crate::client::command_fault::CommandFault;
 use crate::client::commands::Asked;
-use crate::client::replies::Combine;
+use crate::client::replies::{Combine, Needs};
 use crate::client::resp::Reply;
 use crate::client::step::Step;
 use crate::core::transaction::{Condition, Form, Transaction};
@@ -51,6 +51,13 @@ impl Multi {
     /// Whether commands wait for EXEC.
     pub fn is_open(&self) -> bool {
         self.queue.is_some()
+    }
+
+    /// What the reply to a command needs that waits for EXEC, or to EXEC. None: there was no MULTI.
+    pub fn needs(&self, asked: &Asked) -> Option<Needs> {
+        let queue = self.queue.as_ref()?;
+        let of_exec = || queue.steps.iter().map(Step::longest_reply).sum();
+        Some(Needs { parts: 1, longest: if *asked == Asked::Exec { of_exec() } else { 0 } })
     }
 
     pub fn is_watching(&self) -> bool {

@@ -16,11 +16,11 @@ use std::time::{Duration, Instant};
 const MOST_UNDER_WAY: usize = 1_024;
 /// Replies wait where their client hasn't taken so many bytes of those before.
 const MOST_UNSENT: usize = 64 << 10;
-/// A client that takes nothing for so long is gone; one whose replies take more than a connection may have, sooner.
+/// So much is sent to a connection in its turn: who takes much keeps nobody else waiting for all of it.
+pub const SLICE: usize = 64 << 10;
+/// A client that takes nothing for so long is gone; one whose replies take half of what a connection may have, sooner.
 const WRITE_PATIENCE: Duration = Duration::from_secs(30);
 const SHORT_PATIENCE: Duration = Duration::from_secs(5);
-/// Before the first reply has shown how long they are, so many are under way at most.
-const MOST_AT_FIRST: usize = 64;
 /// After so long it is looked again for a reply that is on its way as its time is over.
 const SOON: Duration = Duration::from_millis(1);
 
@@ -139,10 +139,19 @@ impl Combine {
     }
 }
 
+/// How many parts a reply has, and how many bytes one has at most.
+#[derive(Clone, Copy, PartialEq, Eq, Debug)]
+pub struct Needs {
+    pub parts: usize,
+    pub longest: usize,
+}
+
 /// A command whose reply isn't written yet.
 pub struct Slot {
     pub combine: Combine,
     pub parts: Vec<Part>,
+    /// How many bytes a part has at most that hasn't come.
+    pub longest: usize,
     pub version: Version,
     pub begun: Instant,
     /// When its client waits no longer and gets an error.
@@ -164,9 +173,20 @@ pub enum Part {
     Wanted(Option<Reply>),
 }
 
+impl Part {
+    fn is_expected(&self) -> bool {
+        !matches!(self, Part::Come(_))
+    }
+}
+
 impl Slot {
     fn is_ready(&self) -> bool {
-        self.parts.iter().all(|part| matches!(part, Part::Come(_)))
+        !self.parts.iter().any(Part::is_expected)
+    }
+
+    /// How many parts haven't come.
+    fn count_expected(&self) -> usize {
+        self.parts.iter().filter(|part| part.is_expected()).count()
     }
 
     /// The whole reply, what it takes, and that it is due.
@@ -194,8 +214,8 @@ pub struct Replies {
     /// What all that isn't sent takes, words and replies, and what it may take.
     bytes: usize,
     most: usize,
-    /// The longest part of a reply until now, as which each is counted that is under way. None: none has come.
-    longest: Option<usize>,
+    /// What those parts of replies take at most that haven't come.
+    expected: usize,
     /// Since when the client takes nothing, if it doesn't.
     stuck: Option<Instant>,
 }
@@ -215,21 +235,17 @@ impl Replies {
             held: VecDeque::new(),
             bytes: 0,
             most,
-            longest: None,
+            expected: 0,
             stuck: None,
         }
     }
 
-    /// Whether there is room for so much more, or nothing is under way.
-    pub fn has_room(&self, weight: usize) -> bool {
-        let count = self.under_way + weight;
-        self.under_way == 0 || (count <= MOST_UNDER_WAY && self.has_bytes(count))
-    }
-
-    /// Whether so many may be under way, as long as replies are.
-    fn has_bytes(&self, count: usize) -> bool {
-        let longest = self.longest.unwrap_or(self.most / MOST_AT_FIRST);
-        self.bytes.saturating_add(longest.saturating_mul(count)) <= self.most
+    /// Whether there is room for a command, however long its reply gets, or nothing is under way. Of a client that
+    /// takes no replies none is taken.
+    pub fn has_room(&self, needs: Needs) -> bool {
+        let bytes = self.bytes + self.expected + needs.parts * needs.longest;
+        let fits = bytes <= self.most && self.under_way + needs.parts <= MOST_UNDER_WAY;
+        self.stuck.is_none() && (self.under_way == 0 || fits)
     }
 
     /// What all that isn't sent takes.
@@ -250,6 +266,7 @@ impl Replies {
     /// A command has begun: its number.
     pub fn begin(&mut self, slot: Slot) -> u64 {
         self.under_way += slot.parts.len();
+        self.expected += slot.count_expected() * slot.longest;
         self.bytes += slot.share.as_ref().map_or(0, Share::bytes);
         self.slots.push_back(slot);
         self.first + self.slots.len() as u64 - 1
@@ -261,26 +278,30 @@ impl Replies {
         let place = command.checked_sub(self.first).map(|place| place as usize);
         let Some(slot) = place.and_then(|place| self.slots.get_mut(place)) else { return };
         let bytes = reply.size();
-        self.longest = self.longest.max(Some(bytes));
         if let Some(share) = &mut slot.share {
             share.count(bytes);
             self.bytes += bytes;
         }
         if let Some(part) = slot.parts.get_mut(part) {
+            self.expected -= if part.is_expected() { slot.longest } else { 0 };
             *part = Part::Come(reply);
         }
     }
 
-    /// Sends what may be sent, as far as the client takes it.
-    pub fn send(&mut self, mut stream: impl Write) -> io::Result<()> {
+    /// Sends what may be sent, as far as the client takes it, and so many bytes at most.
+    pub fn send(&mut self, mut stream: impl Write, slice: &mut usize) -> io::Result<()> {
         loop {
             self.write_ready();
-            if self.out.is_empty() || self.stuck.is_some() {
+            if !self.is_sending() || *slice == 0 {
                 return Ok(());
             }
-            match stream.write(&self.out[self.sent..]) {
+            let end = self.out.len().min(self.sent.saturating_add(*slice));
+            match stream.write(&self.out[self.sent..end]) {
                 Ok(0) => return Err(ErrorKind::WriteZero.into()),
-                Ok(length) => self.note_sent(length),
+                Ok(length) => {
+                    *slice -= length;
+                    self.note_sent(length);
+                }
                 Err(error) if error.kind() == ErrorKind::WouldBlock => self.stuck = Some(Instant::now()),
                 Err(error) if error.kind() == ErrorKind::Interrupted => {}
                 Err(error) => return Err(error),
@@ -337,6 +358,11 @@ impl Replies {
         self.slots.front().map(|slot| slot.deadline).into_iter().chain(self.lost_from()).min()
     }
 
+    /// Whether there is more to be sent, as far as is known.
+    pub fn is_sending(&self) -> bool {
+        !self.out.is_empty() && self.stuck.is_none()
+    }
+
     /// Whether the client takes nothing now.
     pub fn is_stuck(&self) -> bool {
         self.stuck.is_some()
@@ -348,13 +374,14 @@ impl Replies {
     }
 
     fn lost_from(&self) -> Option<Instant> {
-        let patience = if self.has_bytes(self.under_way + 1) { WRITE_PATIENCE } else { SHORT_PATIENCE };
+        let patience = if 2 * self.bytes > self.most { SHORT_PATIENCE } else { WRITE_PATIENCE };
         self.stuck.map(|since| since + patience)
     }
 
     /// The client of the first command waits no longer, where its time is over.
     pub fn withdraw(&mut self, now: Instant) {
         let Some(slot) = self.slots.front_mut().filter(|slot| slot.deadline <= now) else { return };
+        let before = slot.count_expected();
         for part in &mut slot.parts {
             let reply = match part {
                 Part::Come(_) => None,
@@ -367,6 +394,7 @@ impl Replies {
                 *part = Part::Come(reply);
             }
         }
+        self.expected -= (before - slot.count_expected()) * slot.longest;
         slot.deadline = now + SOON;
     }
 }
@@ -393,37 +421,64 @@ mod tests {
         }
     }
 
-    fn slot(parts: usize, share: Option<Share>, due: &Arc<Due>) -> Slot {
+    fn slot((parts, longest): (usize, usize), share: Option<Share>, due: &Arc<Due>) -> Slot {
         let (begun, version) = (Instant::now(), Version::Two);
         let (parts, combine) = ((0..parts).map(|_| Part::Wanted(None)).collect(), Combine::List);
-        Slot { combine, parts, version, begun, deadline: begun, share, is_counted: true, due: due.begin() }
+        Slot { combine, parts, longest, version, begun, deadline: begun, share, is_counted: true, due: due.begin() }
     }
 
     #[test]
-    fn what_isnt_sent_is_bounded_by_how_long_replies_are() {
+    fn what_isnt_sent_is_bounded_however_long_replies_get() {
         let (store, memory, due) = (Store::new(), Memory::new(1 << 30), Arc::<Due>::default());
-        let most = 100 << 10;
+        let (most, longest) = (100 << 10, 20 << 10);
         let mut replies = Replies::new(store.keys.clone(), Arc::default(), most);
-        replies.begin(slot(1, memory.share(0), &due));
-        assert!(replies.has_room(MOST_AT_FIRST - 1) && !replies.has_room(MOST_AT_FIRST));
-        replies.take(0, 0, Reply::Integer(1));
-        assert!(replies.has_room(MOST_UNDER_WAY - 1));
-        // One part is as long as an eighth of what there may be, and as long may be those three that are under way.
-        replies.begin(slot(2, memory.share(0), &due));
-        replies.take(1, 0, Reply::Bulk(vec![b'v'; most / 8 - size_of::<Reply>()]));
-        assert!(replies.has_room(3) && !replies.has_room(4));
-        replies.send(&mut Taking(Vec::new(), usize::MAX)).unwrap();
-        replies.take(1, 1, Reply::Nil);
-        replies.send(&mut Taking(Vec::new(), usize::MAX)).unwrap();
-        assert!(replies.bytes() == 0 && memory.used() == 0 && replies.has_room(8));
-        // Who takes nothing has less time once there is no room.
+        let has_room = |replies: &Replies, parts, longest| replies.has_room(Needs { parts, longest });
+        // Before any has come each may be as long as it can get.
+        replies.begin(slot((2, longest), memory.share(0), &due));
+        assert!(has_room(&replies, 3, longest) && !has_room(&replies, 4, longest));
+        replies.begin(slot((3, longest), memory.share(0), &due));
+        assert!(has_room(&replies, MOST_UNDER_WAY - 5, 0) && !has_room(&replies, 1, 1));
+        // One that was short makes room, one that was long doesn't.
+        replies.take(0, 1, Reply::Nil);
+        assert!(has_room(&replies, 1, longest - size_of::<Reply>()) && !has_room(&replies, 1, longest));
+        replies.take(0, 0, Reply::Bulk(vec![b'v'; longest - size_of::<Reply>()]));
+        assert!(!has_room(&replies, 1, longest));
+        replies.withdraw(Instant::now());
+        (0..3).for_each(|part| replies.take(1, part, Reply::Nil));
+        replies.send(&mut Taking(Vec::new(), usize::MAX), &mut usize::MAX.clone()).unwrap();
+        assert!((replies.bytes(), replies.expected, memory.used()) == (0, 0, 0));
+        // (whose time is over has no reply that may get long; and by itself any command is taken)
+        replies.begin(slot((1, most), memory.share(0), &due));
+        replies.withdraw(Instant::now());
+        assert!(has_room(&replies, 5, longest));
+        replies.send(&mut Taking(Vec::new(), usize::MAX), &mut usize::MAX.clone()).unwrap();
+        assert!(has_room(&replies, 2, most));
+        // Of who takes nothing no more is taken, and it has less time once it has much.
         let stuck = |replies: &mut Replies, parts| {
-            let number = replies.begin(slot(parts, memory.share(0), &due));
-            (0..parts).for_each(|part| replies.take(number, part, Reply::Bulk(vec![b'v'; most / 8])));
-            replies.send(&mut Taking(Vec::new(), 10)).unwrap();
+            let number = replies.begin(slot((parts, longest), memory.share(0), &due));
+            (0..parts).for_each(|part| replies.take(number, part, Reply::Bulk(vec![b'v'; longest])));
+            replies.send(&mut Taking(Vec::new(), 10), &mut usize::MAX.clone()).unwrap();
             replies.is_lost(Instant::now() + SHORT_PATIENCE)
         };
-        assert!(!stuck(&mut replies, 2) && replies.is_stuck() && stuck(&mut replies, 5));
+        assert!(!stuck(&mut replies, 1) && replies.is_stuck() && !has_room(&replies, 1, 0));
+        assert!(stuck(&mut replies, 2));
+    }
+
+    #[test]
+    fn who_takes_much_gets_a_slice_in_its_turn() {
+        let (store, memory, due) = (Store::new(), Memory::new(1 << 30), Arc::<Due>::default());
+        let mut replies = Replies::new(store.keys.clone(), Arc::default(), usize::MAX);
+        let mut client = Taking(Vec::new(), usize::MAX);
+        for number in 0..50 {
+            replies.begin(slot((1, 0), memory.share(10), &due));
+            replies.take(number, 0, Reply::Bulk(vec![b'v'; 60_000]));
+        }
+        for turn in 1..40 {
+            replies.send(&mut client, &mut SLICE.clone()).unwrap();
+            assert!(client.0.len() == turn * SLICE && replies.is_sending());
+        }
+        (0..10).for_each(|_| replies.send(&mut client, &mut SLICE.clone()).unwrap());
+        assert!(replies.is_over() && !replies.is_sending() && memory.used() == 0);
     }
 
     #[test]
@@ -431,35 +486,36 @@ mod tests {
         let (store, memory, due) = (Store::new(), Memory::new(1 << 30), Arc::<Due>::default());
         let mut replies = Replies::new(store.keys.clone(), Arc::default(), usize::MAX);
         let mut client = Taking(Vec::new(), 100);
-        let numbers = [2, 1].map(|parts| replies.begin(slot(parts, memory.share(10), &due)));
-        assert!(numbers == [0, 1] && replies.has_room(MOST_UNDER_WAY - 3) && !replies.has_room(MOST_UNDER_WAY - 2));
+        let has_room = |replies: &Replies, parts| replies.has_room(Needs { parts, longest: 0 });
+        let numbers = [2, 1].map(|parts| replies.begin(slot((parts, 0), memory.share(10), &due)));
+        assert!(numbers == [0, 1] && has_room(&replies, MOST_UNDER_WAY - 3) && !has_room(&replies, MOST_UNDER_WAY - 2));
         replies.take(1, 0, Reply::Integer(3));
         replies.take(0, 1, Reply::Integer(2));
-        replies.send(&mut client).unwrap();
+        replies.send(&mut client, &mut usize::MAX.clone()).unwrap();
         assert!(client.0.is_empty() && !replies.is_settled());
         replies.take(0, 0, Reply::Integer(1));
-        replies.send(&mut client).unwrap();
+        replies.send(&mut client, &mut usize::MAX.clone()).unwrap();
         assert_eq!(client.0, b"*2\r\n:1\r\n:2\r\n*1\r\n:3\r\n");
         assert!(replies.is_over() && memory.used() == 0 && due.count.load(Ordering::Relaxed) == 0);
         // What isn't taken is bounded: the rest stays as it came, and all of it counts until it is sent.
         client.1 = 10;
         let long = vec![b'v'; MOST_UNSENT / 2];
         for number in 2..8 {
-            replies.begin(slot(1, memory.share(10), &due));
+            replies.begin(slot((1, 0), memory.share(10), &due));
             replies.take(number, 0, Reply::Bulk(long.clone()));
         }
-        replies.send(&mut client).unwrap();
+        replies.send(&mut client, &mut usize::MAX.clone()).unwrap();
         assert!(replies.slots.len() == 4 && replies.out.len() < 2 * MOST_UNSENT && replies.due().is_some());
         assert!(memory.used() > 6 * long.len() && due.count.load(Ordering::Relaxed) == 6);
         assert!(!replies.is_lost(Instant::now()) && replies.is_lost(Instant::now() + WRITE_PATIENCE));
         client.1 = 2 * long.len();
-        replies.send(&mut client).unwrap();
+        replies.send(&mut client, &mut usize::MAX.clone()).unwrap();
         assert_eq!((client.1, replies.slots.len()), (2 * long.len(), 4));
         replies.unstick();
-        replies.send(&mut client).unwrap();
+        replies.send(&mut client, &mut usize::MAX.clone()).unwrap();
         assert!(replies.slots.len() < 3 && due.count.load(Ordering::Relaxed) == 5);
         (replies.unstick(), client.1 = usize::MAX);
-        replies.send(&mut client).unwrap();
+        replies.send(&mut client, &mut usize::MAX.clone()).unwrap();
         assert!(replies.is_over() && memory.used() == 0 && due.count.load(Ordering::Relaxed) == 0);
     }
 }

@@ -9,7 +9,7 @@ use crate::client::memory::Share;
 use crate::client::multi::{Judged, Multi};
 use crate::client::outbox::{Message, Outbox};
 use crate::client::password::Password;
-use crate::client::replies::{Combine, Part, Replies, ReplyTo, Slot};
+use crate::client::replies::{Combine, Needs, Part, Replies, ReplyTo, Slot};
 use crate::client::resp::{Input, Reply, Version, read_command};
 use crate::client::step::Step;
 use crate::core::ask::{Ask, What};
@@ -83,8 +83,8 @@ pub struct Session {
 
 /// What a command waits for.
 enum Wait {
-    /// For room for so much, with so many bytes.
-    Room(Asked, usize, usize),
+    /// For room for what it needs, with so many bytes.
+    Room(Asked, Needs, usize),
     /// For what was asked before it to be done.
     Settled(Later),
     /// For what keys have.
@@ -158,7 +158,7 @@ impl Session {
 
     /// Whether commands are taken now.
     fn takes(&self) -> bool {
-        self.wait.is_none() && !self.is_heard_out && self.replies.has_room(1)
+        self.wait.is_none() && !self.is_heard_out && self.replies.has_room(Needs { parts: 1, longest: 0 })
     }
 
     /// Whether there may be something to be read that may be taken.
@@ -292,7 +292,7 @@ impl Session {
     /// Goes on with what has come, where something that it waited for is there: whether it did.
     pub fn go_on(&mut self, turn: &mut Turn) -> bool {
         match self.wait.take() {
-            Some(Wait::Room(asked, weight, bytes)) if self.replies.has_room(weight) => {
+            Some(Wait::Room(asked, needs, bytes)) if self.replies.has_room(needs) => {
                 self.carry_out(asked, bytes, turn);
             }
             Some(Wait::Settled(later)) if self.replies.is_settled() => self.do_later(later, turn),
@@ -308,9 +308,14 @@ impl Session {
         true
     }
 
-    /// Sends what there is to reply, as far as the client takes it.
-    pub fn send(&mut self) -> io::Result<()> {
-        self.replies.send(&*self.stream)
+    /// Sends what there is to reply, as far as the client takes it, and so many bytes at most.
+    pub fn send(&mut self, slice: &mut usize) -> io::Result<()> {
+        self.replies.send(&*self.stream, slice)
+    }
+
+    /// Whether there is more to be done at once, in its next turn.
+    pub fn is_ready(&self) -> bool {
+        self.may_read() || self.replies.is_sending()
     }
 
     /// Closes the connection: it doesn't go on.
@@ -369,11 +374,11 @@ impl Session {
             return self.fail(CommandFault::NoMemory);
         }
         let asked = self.permitted(understand(words));
-        let weight = if self.multi.is_open() { 1 } else { weight(&asked) };
-        if self.replies.has_room(weight) {
+        let needs = self.multi.needs(&asked).unwrap_or_else(|| needs(&asked));
+        if self.replies.has_room(needs) {
             self.carry_out(asked, bytes, turn);
         } else {
-            self.wait = Some(Wait::Room(asked, weight, bytes));
+            self.wait = Some(Wait::Room(asked, needs, bytes));
         }
     }
 
@@ -508,12 +513,19 @@ impl Session {
         share
     }
 
-    /// Begins a command, with what its bytes take: its number.
-    fn begin_for(&mut self, combine: Combine, parts: Vec<Part>, patience: Duration, share: Option<Share>) -> u64 {
-        let begun = Instant::now();
+    /// Begins a command, with the parts of its reply, each of which has so many bytes at most, and with what its own
+    /// bytes take: its number.
+    fn begin_for(
+        &mut self,
+        combine: Combine,
+        (parts, longest): (Vec<Part>, usize),
+        patience: Duration,
+        share: Option<Share>,
+    ) -> u64 {
+        let (begun, version, due) = (Instant::now(), self.version, self.shared.due.begin());
         let is_counted = !parts.iter().all(|part| matches!(part, Part::Come(_)));
-        let (deadline, due) = (begun + patience, self.shared.due.begin());
-        self.replies.begin(Slot { combine, parts, version: self.version, begun, deadline, share, is_counted, due })
+        let deadline = begun + patience;
+        self.replies.begin(Slot { combine, parts, longest, version, begun, deadline, share, is_counted, due })
     }
 
     fn reply_to(&self, command: u64, part: usize) -> ReplyTo {
@@ -526,7 +538,7 @@ impl Session {
         let is_short = reply.size() <= SHORT;
         let share = memory.share(bytes).or_else(|| is_short.then(|| memory.share_anyway(bytes)));
         let reply = if share.is_some() { reply } else { Reply::Error(CommandFault::NoMemory) };
-        self.begin_for(Combine::One, vec![Part::Come(reply)], self.shared.patience, share);
+        self.begin_for(Combine::One, (vec![Part::Come(reply)], 0), self.shared.patience, share);
     }
 
     fn fail(&mut self, fault: CommandFault) {
@@ -535,9 +547,10 @@ impl Session {
 
     /// Has actions done, each by a command of the protocol or by a read.
     fn ask(&mut self, combine: Combine, actions: Vec<(Vec<u8>, Action)>, share: Share, turn: &mut Turn) {
+        let longest = longest_of(&actions);
         let asked: Vec<_> = actions.into_iter().map(|(key, action)| (self.shared.keys.id(), key, action)).collect();
         let parts = asked.iter().map(|(id, key, _)| Part::Asked(key.clone(), *id)).collect();
-        let command = self.begin_for(combine, parts, self.shared.patience, Some(share));
+        let command = self.begin_for(combine, (parts, longest), self.shared.patience, Some(share));
         self.is_writing = true;
         for (part, (id, key, action)) in asked.into_iter().enumerate() {
             turn.wanted.push(Wanted::Action(id, key, action, self.reply_to(command, part)));
@@ -553,9 +566,10 @@ impl Session {
         }
         // (one has put its replies together)
         let combine = if all.len() == 1 { Combine::One } else { combine };
+        let longest = all.iter().map(Transaction::longest_reply).max().unwrap_or(0);
         let all: Vec<_> = all.into_iter().map(|it| (self.shared.keys.id(), it)).collect();
         let parts = all.iter().map(|(number, _)| Part::Joint(*number)).collect();
-        let command = self.begin_for(combine, parts, self.shared.patience, share);
+        let command = self.begin_for(combine, (parts, longest), self.shared.patience, share);
         self.is_writing = true;
         for (part, (number, transaction)) in all.into_iter().enumerate() {
             turn.wanted.push(Wanted::Transaction(number, transaction, self.reply_to(command, part)));
@@ -652,7 +666,7 @@ impl Session {
     /// Reads at this replica alone.
     fn read_here(&mut self, combine: Combine, actions: Vec<(Vec<u8>, Action)>, share: Share) {
         let parts = actions.iter().map(|_| Part::Wanted(None)).collect();
-        let command = self.begin_for(combine, parts, self.shared.patience, Some(share));
+        let command = self.begin_for(combine, (parts, longest_of(&actions)), self.shared.patience, Some(share));
         for (part, (key, action)) in actions.into_iter().enumerate() {
             let to = self.reply_to(command, part);
             let (keys, of) = (self.shared.keys.clone(), key.clone());
@@ -664,7 +678,7 @@ impl Session {
     /// Asks the driver of what isn't of keys. Where it doesn't answer in time the reply is the other one, if there is
     /// one.
     fn ask_driver(&mut self, what: What, patience: Duration, other: Option<Reply>) {
-        let command = self.begin_for(Combine::One, vec![Part::Wanted(other)], patience, None);
+        let command = self.begin_for(Combine::One, (vec![Part::Wanted(other)], 0), patience, None);
         let (to, shared) = (self.reply_to(command, 0), self.shared.clone());
         let reply = ReplySender::new(move |outcome| {
             to.send(match outcome {
@@ -710,13 +724,20 @@ impl Session {
     }
 }
 
-/// How much of what may be under way it takes.
-fn weight(asked: &Asked) -> usize {
-    match asked {
-        Asked::Keys(_, actions) => actions.len(),
-        Asked::Joint(Combine::Sum, steps) => steps.len().div_ceil(MOST_TOLD),
-        _ => 1,
-    }
+/// What the reply to a command needs.
+fn needs(asked: &Asked) -> Needs {
+    let (parts, longest) = match asked {
+        Asked::Keys(_, actions) => (actions.len(), longest_of(actions)),
+        Asked::Joint(Combine::Sum, steps) => (steps.len().div_ceil(MOST_TOLD), 0),
+        Asked::Txn(transaction) => (1, transaction.longest_reply()),
+        _ => (1, 0),
+    };
+    Needs { parts, longest }
+}
+
+/// How many bytes the reply of one of these takes at most.
+fn longest_of(actions: &[(Vec<u8>, Action)]) -> usize {
+    actions.iter().map(|(_, action)| action.longest_reply()).max().unwrap_or(0)
 }
 
 /// A DEL of many keys takes several transactions: one reports of so many keys at most what they had.

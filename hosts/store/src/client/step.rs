@@ -41,6 +41,15 @@ impl Step {
         }
     }
 
+    /// How many bytes its reply takes at most.
+    pub fn longest_reply(&self) -> usize {
+        match self {
+            Step::Act(_, action) => action.longest_reply(),
+            Step::Reply(reply) => reply.size(),
+            Step::Carry { .. } | Step::SetNew(_) => size_of::<Reply>(),
+        }
+    }
+
     /// Does it to what the view has: the reply.
     pub fn take(&self, view: &mut View) -> Reply {
         match self {

@@ -142,6 +142,11 @@ impl Transaction {
         is_untouched.then(|| self.reply(self.replies(&Values::new(), 0), true))
     }
 
+    /// How many bytes its reply takes at most.
+    pub fn longest_reply(&self) -> usize {
+        self.steps.iter().map(Step::longest_reply).sum()
+    }
+
     /// All that it touches.
     pub fn keys(&self) -> BTreeSet<Vec<u8>> {
         let of_steps = self.steps.iter().flat_map(Step::keys).map(<[u8]>::to_vec);
