@@ -9,12 +9,12 @@
 //! with all that comes of it.
 
 use epaxos::{Call, Checkpoint, Cluster, Command, Replica, Setup, Succession};
-use sha2::{Digest, Sha256};
 use std::collections::VecDeque;
 use std::error::Error;
 use std::fs;
 use std::thread::{self, JoinHandle};
 use std::time::{Duration, Instant};
+use store::life::sum::sum_of;
 
 type Res<T> = Result<T, Box<dyn Error>>;
 
@@ -47,7 +47,7 @@ fn opening(keys: usize) -> Vec<u8> {
         bytes.extend([key, value].concat());
     }
     bytes.extend(0u32.to_be_bytes());
-    let digest = Sha256::digest(&bytes);
+    let digest = sum_of(&bytes);
     bytes.extend(digest);
     bytes
 }

@@ -50,7 +50,7 @@
 //!             for act in writes.acts {
 //!                 match act {
 //!                     Act::Append { generation, bytes } => {
-//!                         disk.0.entry((generation, Name::Log)).or_default().extend(bytes);
+//!                         disk.0.entry((generation, Name::Log)).or_default().extend(&*bytes);
 //!                     }
 //!                     Act::Put { generation, name, bytes } => _ = disk.0.insert((generation, name), bytes),
 //!                     Act::Drop { below } => disk.0.retain(|(it, _), _| *it == 0 || *it >= below),

@@ -1,8 +1,8 @@
 //! The password that clients say before anything else is done for them.
+use crate::life::sum::sum_of;
 use crate::peer::sealed::{KeyFault, read_secret};
-use sha2::{Digest, Sha256};
+use epaxos::parts::mac::is_same;
 use std::path::Path;
-use subtle::ConstantTimeEq;
 
 /// The name of the one user that there is, as Redis has it.
 const USER: &[u8] = b"default";
@@ -18,13 +18,12 @@ impl Password {
     }
 
     pub fn of(secret: &[u8]) -> Password {
-        Password(Sha256::digest(secret).into())
+        Password(sum_of(secret))
     }
 
     /// Whether this user has said it.
     pub fn is_said(&self, user: &[u8], secret: &[u8]) -> bool {
-        let is_said: bool = self.0.ct_eq(&Password::of(secret).0).into();
-        is_said && user == USER
+        is_same(&self.0, &Password::of(secret).0) && user == USER
     }
 
     /// Whether it was said by the words of an AUTH: a password, or a user and a password.

@@ -417,7 +417,6 @@ fn opening_of(
 #[cfg(test)]
 mod tests {
     use super::*;
-    use sha2::{Digest, Sha256};
 
     #[test]
     fn words() {
@@ -460,7 +459,7 @@ mod tests {
             &digits("00000001 01 00000001 61 31 00000000"),
         ];
         assert_eq!(body, expected.concat());
-        assert_eq!(Sha256::digest(body)[..], *digest);
+        assert_eq!(sum_of(body)[..], *digest);
         for (replicas, generation, map) in [(4, 258, map), (3, 1, map), (3, 258, &map[1..]), (3, 258, &[])] {
             assert!(matches!(opening_of(replicas, (generation, 7), &members, map), Err(RecoveryFault::BadOpening(..))));
         }

@@ -1,7 +1,8 @@
-//! The SHA-256 of logs, by a crate that uses what the processor has for it, and beside the thread that serves: each
+//! The SHA-256 of logs, by a crate that has it in the processor's own words, and beside the thread that serves: each
 //! byte of a log goes through it, and only the change to the next generation asks for the sum.
 use epaxos::host::{Summing, Sums};
-use sha2::{Digest, Sha256};
+use ring::digest::{Context, SHA256, digest};
+use std::sync::Arc;
 use std::sync::mpsc::{Receiver, SyncSender, sync_channel};
 use std::thread;
 
@@ -13,17 +14,21 @@ const PIECE: usize = 128 << 10;
 /// At most so many pieces wait for it, so that a sum that is asked for is soon there.
 const MOST_PIECES: usize = 16;
 
+/// What was written, one after the other, as it lies in memory.
+type Parts = Vec<Arc<Vec<u8>>>;
+
 /// What the thread is handed.
 enum Handed {
-    Piece(Vec<u8>),
-    /// The sum of all that came before, with these bytes behind it, is to be sent there. More may come.
-    Asked(Vec<u8>, SyncSender<[u8; 32]>),
+    Piece(Parts),
+    /// The sum of all that came before, with these behind it, is to be sent there. More may come.
+    Asked(Parts, SyncSender<[u8; 32]>),
 }
 
 /// The SHA-256 of bytes that come one after the other, by a thread of its own.
 struct Beside {
-    /// What it wasn't handed yet.
-    rest: Vec<u8>,
+    /// What it wasn't handed yet, and how many bytes that is.
+    rest: Parts,
+    length: usize,
     thread: SyncSender<Handed>,
 }
 
@@ -31,7 +36,7 @@ struct Beside {
 fn begin() -> Box<dyn Summing> {
     let (thread, handed) = sync_channel(MOST_PIECES);
     match thread::Builder::new().name("sum".into()).spawn(move || sum_all(&handed)) {
-        Ok(_) => Box::new(Beside { rest: Vec::new(), thread }),
+        Ok(_) => Box::new(Beside { rest: Vec::new(), length: 0, thread }),
         Err(_) => Box::new(Running::default()),
     }
 }
@@ -41,10 +46,10 @@ fn sum_all(handed: &Receiver<Handed>) {
     let mut sum = Running::default();
     for it in handed {
         match it {
-            Handed::Piece(bytes) => sum.add(&bytes),
+            Handed::Piece(parts) => parts.iter().for_each(|bytes| sum.add(bytes)),
             Handed::Asked(rest, reply) => {
                 let mut whole = Running(sum.0.clone());
-                whole.add(&rest);
+                rest.iter().for_each(|bytes| whole.add(bytes));
                 let _ = reply.send(whole.digest());
             }
         }
@@ -59,9 +64,15 @@ impl Beside {
 
 impl Summing for Beside {
     fn add(&mut self, bytes: &[u8]) {
-        self.rest.extend(bytes);
-        if self.rest.len() >= PIECE {
-            let piece = std::mem::replace(&mut self.rest, Vec::with_capacity(PIECE));
+        self.share(&Arc::new(bytes.to_vec()));
+    }
+
+    fn share(&mut self, bytes: &Arc<Vec<u8>>) {
+        self.length += bytes.len();
+        self.rest.push(bytes.clone());
+        if self.length >= PIECE {
+            self.length = 0;
+            let piece = std::mem::take(&mut self.rest);
             self.hand(Handed::Piece(piece));
         }
     }
@@ -74,8 +85,13 @@ impl Summing for Beside {
 }
 
 /// The same at once, by whoever asks.
-#[derive(Default)]
-struct Running(Sha256);
+struct Running(Context);
+
+impl Default for Running {
+    fn default() -> Running {
+        Running(Context::new(&SHA256))
+    }
+}
 
 impl Summing for Running {
     fn add(&mut self, bytes: &[u8]) {
@@ -83,13 +99,13 @@ impl Summing for Running {
     }
 
     fn digest(&self) -> [u8; 32] {
-        self.0.clone().finalize().into()
+        *self.0.clone().finish().as_ref().first_chunk().unwrap_or(&[0; 32])
     }
 }
 
 /// The SHA-256 of these bytes.
 pub fn sum_of(bytes: &[u8]) -> [u8; 32] {
-    Sha256::digest(bytes).into()
+    *digest(&SHA256, bytes).as_ref().first_chunk().unwrap_or(&[0; 32])
 }
 
 #[cfg(test)]

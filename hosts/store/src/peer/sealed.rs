@@ -4,8 +4,7 @@ use epaxos::parts::mac::Mac;
 use epaxos::parts::sealed;
 pub use epaxos::parts::sealed::{Hello, Magic, answer, call, heard};
 pub use epaxos::parts::secret::{KeyFault, read_secret};
-use hmac::{Hmac, Mac as _};
-use sha2::Sha256;
+use ring::hmac::{Context, HMAC_SHA256};
 
 /// What a connection of stores begins with.
 pub const MAGIC: Magic = *b"EPST\x04";
@@ -15,13 +14,11 @@ pub type Channel = sealed::Channel<HmacSha256>;
 pub type Direction = sealed::Direction<HmacSha256>;
 
 #[derive(Clone)]
-pub struct HmacSha256(Hmac<Sha256>);
+pub struct HmacSha256(Context);
 
 impl Mac for HmacSha256 {
-    /// (An HMAC takes a key of any length.)
     fn keyed(key: &[u8]) -> HmacSha256 {
-        let keyed = Hmac::new_from_slice(key);
-        HmacSha256(keyed.unwrap_or_else(|_| unreachable!("an HMAC takes a key of any length")))
+        HmacSha256(Context::with_key(&ring::hmac::Key::new(HMAC_SHA256, key)))
     }
 
     fn add(&mut self, bytes: &[u8]) {
@@ -29,7 +26,7 @@ impl Mac for HmacSha256 {
     }
 
     fn digest(self) -> [u8; 32] {
-        self.0.finalize().into_bytes().into()
+        *self.0.sign().as_ref().first_chunk().unwrap_or(&[0; 32])
     }
 }
 

@@ -1,4 +1,5 @@
 //! What the disk is to do.
+use std::sync::Arc;
 
 /// What the disk is to do: acts of one batch are done in their order, and are on the disk before
 /// [`Host::synced`](super::Host::synced).
@@ -25,8 +26,8 @@ pub enum Act {
     Append {
         /// The generation.
         generation: u32,
-        /// The bytes.
-        bytes: Vec<u8>,
+        /// The bytes, which may be summed meanwhile.
+        bytes: Arc<Vec<u8>>,
     },
     /// A file gets these bytes in the place of what it has: after a crash it has the ones or the others, whole. Its
     /// folder is made, where it isn't there.

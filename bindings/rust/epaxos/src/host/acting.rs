@@ -5,6 +5,7 @@ use crate::parts::members::Members;
 use crate::parts::room::growth;
 use crate::{Cluster, Command, Executed, Fault, Instance, OwnedAnswer, Proposed, Reference, Replica};
 use std::collections::HashSet;
+use std::sync::Arc;
 
 /// A receipt, with its answer.
 pub(super) struct Receipt {
@@ -74,15 +75,20 @@ impl Acting {
     }
 
     /// Lends what is to be written next, and whether it takes the place of the whole log. None: nothing is.
-    pub(super) fn lend(&mut self) -> Result<Option<(Vec<u8>, bool)>, Fault> {
+    pub(super) fn lend(&mut self) -> Result<Option<(Arc<Vec<u8>>, bool)>, Fault> {
         let ready = self.replica.ready()?;
-        let (bytes, is_anew) = (ready.log().to_vec(), ready.is_anew());
+        let (bytes, is_anew) = (Arc::new(ready.log().to_vec()), ready.is_anew());
         if is_anew {
             (self.sum, self.length) = ((self.sums.begin)(), 0);
         }
-        self.sum.add(&bytes);
+        self.sum.share(&bytes);
         self.length += bytes.len() as u64;
         Ok((!bytes.is_empty()).then_some((bytes, is_anew)))
+    }
+
+    /// The same of a log that begins.
+    pub(super) fn lend_whole(&mut self) -> Result<Option<Vec<u8>>, Fault> {
+        Ok(self.lend()?.map(|(bytes, _)| Arc::unwrap_or_clone(bytes)))
     }
 
     /// What was lent is on the disk. What was written is reported, where that is wanted, and what was executed an

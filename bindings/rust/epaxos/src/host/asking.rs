@@ -11,6 +11,7 @@ use crate::parts::together::answers;
 use crate::parts::under_way::Waiting;
 use crate::{Event, Fault, Instance, MOST_COMMANDS, OwnedAnswer, OwnedCommand, Proposed};
 use std::collections::BTreeMap;
+use std::sync::Arc;
 use std::time::Instant;
 
 impl Host {
@@ -42,7 +43,7 @@ impl Host {
         let (lent, generation) = (acting.lend()?, acting.generation);
         let is_idle = lent.is_none();
         self.acts.extend(lent.map(|(bytes, is_anew)| match is_anew {
-            true => Act::Put { generation, name: Name::Log, bytes },
+            true => Act::Put { generation, name: Name::Log, bytes: Arc::unwrap_or_clone(bytes) },
             false => Act::Append { generation, bytes },
         }));
         if is_idle && self.acts.is_empty() {

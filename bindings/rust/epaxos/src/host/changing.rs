@@ -51,7 +51,7 @@ impl Host {
         let checkpoint = acting.replica.succeed(&Succession::new(reference, self.progress.place.replica))?;
         acting.begin(generation);
         self.applying.as_mut().into_iter().for_each(|it| it.begin(generation));
-        let log = acting.lend()?.map(|(bytes, _)| Host::put(generation, Name::Log, bytes));
+        let log = acting.lend_whole()?.map(|bytes| Host::put(generation, Name::Log, bytes));
         let named = Host::put(generation, Name::Reference, reference.bytes());
         let mark = Host::put(left, Name::Left, generation.to_string().into());
         let is_late = self.settings.has(Plant::LateReference);
@@ -241,7 +241,7 @@ impl Host {
         }
         let acting = Acting::new(replica, generation, opening.map, &self.settings);
         let mut acting = acting.reporting(self.applying.is_some());
-        let log = acting.lend()?.map(|(bytes, _)| Host::put(generation, Name::Log, bytes));
+        let log = acting.lend_whole()?.map(|bytes| Host::put(generation, Name::Log, bytes));
         let length = bytes.len() as u64;
         // (the opening last: before it is there, the generation isn't)
         self.acts.extend(log);

@@ -71,7 +71,7 @@ pub(super) fn begin(
         acts.push(put(Name::Machine, applying.begun().to_vec()));
     }
     acts.push(put(Name::Opening, opening.to_vec()));
-    acts.extend(acting.lend().map_err(FolderFault::Core)?.map(|(bytes, _)| put(Name::Log, bytes)));
+    acts.extend(acting.lend_whole().map_err(FolderFault::Core)?.map(|bytes| put(Name::Log, bytes)));
     let mut files = Files::default();
     files.keep(1, opening.len() as u64, None);
     let (executed, cluster, members) = (Vec::new(), settings.cluster, None);
@@ -130,7 +130,7 @@ pub(super) fn go_on(
     files.keep(whole, found.first.bytes.len() as u64, found.first.reference);
     found.references.iter().for_each(|next| files.leave(*next));
     let mut acting = Acting::new(replica, plan.generation, opening.map, settings).reporting(applying.is_some());
-    acts.extend(acting.lend().map_err(FolderFault::Core)?.map(|(bytes, _)| put(plan.generation, Name::Log, bytes)));
+    acts.extend(acting.lend_whole().map_err(FolderFault::Core)?.map(|bytes| put(plan.generation, Name::Log, bytes)));
     let earlier = held.iter().filter(|one| one.number < plan.generation && one.left_for < plan.generation);
     acts.extend(earlier.map(|one| put(one.number, Name::Left, plan.generation.to_string().into())));
     let (cluster, members) = (cluster(opening.replicas)?, opening.members());
@@ -159,7 +159,7 @@ pub(super) fn take(settings: &Settings, stored: &impl Stored, bytes: &[u8]) -> R
     let mut acts = vec![counted];
     let put = |generation, name, bytes| Act::Put { generation, name, bytes };
     // (the opening behind the log: before it is there, the generation isn't)
-    acts.extend(acting.lend().map_err(FolderFault::Core)?.map(|(log, _)| put(generation, Name::Log, log)));
+    acts.extend(acting.lend_whole().map_err(FolderFault::Core)?.map(|log| put(generation, Name::Log, log)));
     acts.push(put(generation, Name::Opening, bytes.to_vec()));
     let earlier = held.iter().filter(|one| one.number < generation && one.left_for < generation);
     acts.extend(earlier.map(|one| put(one.number, Name::Left, generation.to_string().into())));

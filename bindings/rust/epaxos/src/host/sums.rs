@@ -1,6 +1,7 @@
 //! How the SHA-256 of bytes is found.
 use crate::Sum;
 use std::fmt;
+use std::sync::Arc;
 
 /// The SHA-256 of bytes that come one after the other.
 ///
@@ -15,6 +16,12 @@ use std::fmt;
 pub trait Summing: Send {
     /// These come next.
     fn add(&mut self, bytes: &[u8]);
+
+    /// The same of bytes that others have too, as they are written: whoever sums them later keeps them, and needn't
+    /// copy them.
+    fn share(&mut self, bytes: &Arc<Vec<u8>>) {
+        self.add(bytes);
+    }
 
     /// The digest of all that came. More may come after it.
     fn digest(&self) -> [u8; 32];

@@ -15,7 +15,7 @@ use std::sync::{Arc, Mutex, MutexGuard, PoisonError};
 /// let mut disk = MemoryDisk::default();
 /// let same = disk.clone();
 /// disk.carry_out(&[Act::Put { generation: 1, name: Name::Log, bytes: b"EP".into() }])?;
-/// disk.carry_out(&[Act::Append { generation: 1, bytes: b"LG".into() }])?;
+/// disk.carry_out(&[Act::Append { generation: 1, bytes: b"LG".to_vec().into() }])?;
 /// assert_eq!(same.read(1, Name::Log)?, Some(b"EPLG".into()));
 /// # Ok::<(), std::io::Error>(())
 /// ```

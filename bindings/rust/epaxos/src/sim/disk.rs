@@ -22,7 +22,7 @@ pub(super) struct Disk {
 
 fn act(content: &mut Content, act: &Act) {
     match act {
-        Act::Append { generation, bytes } => content.entry((*generation, Name::Log)).or_default().extend(bytes),
+        Act::Append { generation, bytes } => content.entry((*generation, Name::Log)).or_default().extend(&**bytes),
         Act::Put { generation, name, bytes } => _ = content.insert((*generation, *name), bytes.clone()),
         Act::Drop { below } => content.retain(|(generation, _), _| *generation == 0 || generation >= below),
     }
@@ -119,7 +119,7 @@ impl Disk {
         all[..count].iter().for_each(|it| self.act(it));
         if let Some(Act::Append { generation, bytes }) = all.get(count) {
             let part = random.below(bytes.len() as u64 + 1) as usize;
-            self.act(&Act::Append { generation: *generation, bytes: bytes[..part].to_vec() });
+            self.act(&Act::Append { generation: *generation, bytes: bytes[..part].to_vec().into() });
         }
     }
 }
@@ -144,7 +144,7 @@ mod tests {
     fn what_was_not_synced_is_lost_from_some_act_on() {
         let writes = |number, byte| {
             let put = Act::Put { generation: 1, name: Name::Left, bytes: vec![byte] };
-            Writes { number, acts: vec![Act::Append { generation: 1, bytes: vec![byte; 9] }, put] }
+            Writes { number, acts: vec![Act::Append { generation: 1, bytes: vec![byte; 9].into() }, put] }
         };
         let mut found = std::collections::BTreeSet::new();
         for seed in 0..200 {
@@ -164,7 +164,8 @@ mod tests {
 
     #[test]
     fn a_disk_that_lies_loses_what_it_said_was_there() {
-        let append = |number, byte| Writes { number, acts: vec![Act::Append { generation: 1, bytes: vec![byte; 9] }] };
+        let append =
+            |number, byte| Writes { number, acts: vec![Act::Append { generation: 1, bytes: vec![byte; 9].into() }] };
         let log = |disk: &Disk| disk.read(1, Name::Log).unwrap().unwrap();
         let mut lengths = std::collections::BTreeSet::new();
         for seed in 0..100 {
@@ -189,7 +190,7 @@ mod tests {
     fn what_is_dropped_is_kept_where_that_is_wanted() {
         for keeps in [false, true] {
             let mut disk = Disk::new(keeps);
-            let append = |generation| Act::Append { generation, bytes: vec![7] };
+            let append = |generation| Act::Append { generation, bytes: vec![7].into() };
             disk.give(Writes { number: 1, acts: vec![append(1), append(2), Act::Drop { below: 2 }] });
             disk.sync();
             assert_eq!(disk.generations().unwrap(), [2]);
