@@ -205,7 +205,7 @@ fn start(options: Options, due: Arc<Due>) -> Result<Serving, StoreFault> {
     let for_operators = options.admin.bind().map_err(|error| StoreFault::Admin(options.admin.to_string(), error))?;
     let (sender, events) = sync_channel(WAITING_EVENTS);
     let metrics = Arc::<Metrics>::default();
-    let asks = Asks::new(sender.clone());
+    let asks = Asks::new(sender.clone(), options.patience);
     let shared = Shared {
         keys: Keys::start(asks.clone(), metrics.clone()).map_err(StoreFault::Thread)?,
         listing: Arc::new(Listing::new(sender.clone(), options.patience)),

@@ -137,6 +137,29 @@ fn who_takes_no_replies_shuts_nobody_out() {
     }
 }
 
+/// By count and not by time: how many turns of the core's thread a command waits beside four pipelines of a thousand.
+#[test]
+fn one_command_waits_for_few_turns() {
+    let memory = Memory::begin("turns", (Duration::from_millis(200), 16), |_| ());
+    let keys: Vec<String> = (0..1_000).map(|key| format!("key-{key}")).collect();
+    let mut others = [0, 1, 2, 3].map(|_| memory.client());
+    for (place, client) in others.iter_mut().enumerate() {
+        let words: Vec<Vec<u8>> = keys.iter().map(|key| format!("{place}-{key}").into_bytes()).collect();
+        let words: Vec<[&[u8]; 3]> = words.iter().map(|key| [&b"SET"[..], key, b"1"]).collect();
+        client.send(&words.iter().map(|line| &line[..]).collect::<Vec<_>>()).unwrap();
+    }
+    wait("the others", || memory.turns() > 2);
+    let mut client = memory.client();
+    let mut waits = [0; 5].map(|_| {
+        let before = memory.turns();
+        assert_eq!(ask(&mut client, "SET x 1"), ok());
+        memory.turns() - before
+    });
+    waits.sort_unstable();
+    // (all that waits takes 250; and a thread may have to wait for a processor)
+    assert!(waits[2] < 20, "{waits:?}");
+}
+
 #[test]
 fn places_are_kept_for_who_asks_how_it_is() {
     let connections = Arc::new(Connections::new(3, Duration::from_secs(3_600)));

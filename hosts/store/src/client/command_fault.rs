@@ -25,6 +25,8 @@ pub enum CommandFault {
     Ending,
     /// It wasn't done: its time was over before it was proposed, since others wait before it, or the generation changes.
     Waiting,
+    /// It wasn't done: so many wait before it that its time would be over.
+    Crowded,
     /// It wasn't done: the map would pass what it may have.
     MapFull,
     /// It wasn't done: its time is over, and it would have had to look first.
@@ -108,6 +110,7 @@ impl CommandFault {
             Outcome::Refused(fault) => CommandFault::Node(fault),
             Outcome::Alone => CommandFault::NoMajority,
             Outcome::Late => CommandFault::Waiting,
+            Outcome::Crowded => CommandFault::Crowded,
             Outcome::MapFull => CommandFault::MapFull,
             Outcome::Ending => CommandFault::Ending,
             Outcome::DoneUnseen | Outcome::Doubtful => CommandFault::Doubtful,
@@ -151,6 +154,7 @@ impl fmt::Display for CommandFault {
             CommandFault::NoMajority => f.write_str("TRYAGAIN the command wasn't done: no majority is reached"),
             CommandFault::Contended => f.write_str("TRYAGAIN the command wasn't done: others changed the key at each try"),
             CommandFault::Waiting => f.write_str("TRYAGAIN the command wasn't done: its time was over before it was proposed"),
+            CommandFault::Crowded => f.write_str("TRYAGAIN the command wasn't done: too many wait before it"),
             CommandFault::MapFull => {
                 f.write_str("OOM the command wasn't done: the map has no room for it (--most-map); delete something first")
             }

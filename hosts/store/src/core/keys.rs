@@ -685,7 +685,7 @@ pub(crate) mod tests {
 
     impl Store {
         pub(crate) fn new() -> Store {
-            let (asks, metrics) = (Asks::new(sync_channel(1).0), Arc::<Metrics>::default());
+            let (asks, metrics) = (Asks::new(sync_channel(1).0, Duration::MAX), Arc::<Metrics>::default());
             let keys = Keys::start(asks.clone(), metrics.clone()).unwrap();
             Store { keys, metrics, asks, come: Mutex::default(), outbox: Arc::default() }
         }
@@ -735,7 +735,7 @@ pub(crate) mod tests {
         /// All that has come to be asked.
         pub(crate) fn come(&self) -> MutexGuard<'_, VecDeque<Ask>> {
             let mut come = self.come.lock().unwrap();
-            come.extend(self.asks.take(usize::MAX, usize::MAX));
+            come.extend(self.asks.take(usize::MAX, usize::MAX, Instant::now()));
             come
         }
 
@@ -908,8 +908,8 @@ pub(crate) mod tests {
                 _ => false,
             })
         };
-        assert_eq!(place(store.asks.take(100, 0)), Some(4));
-        assert_eq!(place(store.asks.take(0, 100)), Some(4));
+        assert_eq!(place(store.asks.take(100, 0, Instant::now())), Some(4));
+        assert_eq!(place(store.asks.take(0, 100, Instant::now())), Some(4));
     }
 
     #[test]

@@ -19,6 +19,8 @@ pub enum Outcome {
     Alone,
     /// It wasn't done, as it waited for too long.
     Late,
+    /// It wasn't proposed, as so many wait that it would be too late.
+    Crowded,
     /// It wasn't proposed, as the map has no room for it.
     MapFull,
     /// It wasn't done, as the store ends, or takes part no more.
@@ -81,5 +83,6 @@ mod tests {
             assert_eq!((fault.may_be_done(), says_undone && expected), (expected, false), "{told:?}: {fault}");
         }
         assert!(CommandFault::of(Outcome::Ended).may_be_done());
+        assert!(!CommandFault::of(Outcome::Crowded).may_be_done());
     }
 }

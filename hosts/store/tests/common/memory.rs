@@ -37,13 +37,18 @@ impl Memory {
 
     /// Likewise, with other settings.
     pub fn start_with(name: &str, takes: Duration, change: impl FnOnce(&mut Shared)) -> Memory {
+        Memory::begin(name, (takes, usize::MAX), change)
+    }
+
+    /// One that takes so long for what has come, and so many commands of that at most.
+    pub fn begin(name: &str, turn: (Duration, usize), change: impl FnOnce(&mut Shared)) -> Memory {
         let folder = std::env::temp_dir().join(format!("store-memory-{name}-{}", std::process::id()));
         std::fs::create_dir_all(&folder).unwrap();
         let listener = TcpListener::bind("127.0.0.1:0").unwrap();
         let port = listener.local_addr().unwrap().port();
         let (events, asked) = sync_channel(4_096);
         let metrics = Arc::<Metrics>::default();
-        let asks = Asks::new(events.clone());
+        let asks = Asks::new(events.clone(), PATIENCE);
         let keys = Keys::start(asks.clone(), metrics.clone()).unwrap();
         let listing = Arc::new(Listing::new(events, PATIENCE));
         metrics.takes_part.set(1);
@@ -63,7 +68,7 @@ impl Memory {
         change(&mut shared);
         let turns = Arc::<AtomicU64>::default();
         let counted = turns.clone();
-        thread::spawn(move || drive(&asked, &asks, (takes, &counted)));
+        thread::spawn(move || drive(&asked, &asks, turn, &counted));
         thread::spawn(move || listen(listener, Arc::new(shared)));
         Memory { port, folder, turns }
     }
@@ -84,13 +89,17 @@ impl Drop for Memory {
     }
 }
 
-/// Takes what has come, waits, and answers all of it, in any order.
-fn drive(events: &Receiver<Event>, asks: &Asks, (takes, turns): (Duration, &AtomicU64)) {
+/// Takes what has come, so many commands at most, waits, and answers all of it, in any order.
+fn drive(events: &Receiver<Event>, asks: &Asks, (takes, most): (Duration, usize), turns: &AtomicU64) {
     let (mut map, mut random) = (Map::new(), Random::from_seed(1));
-    while let Ok(first) = events.recv() {
+    loop {
         let asked = |event| if let Event::Ask(ask) = event { Some(ask) } else { None };
-        let mut come: Vec<Ask> = [first].into_iter().chain(events.try_iter()).filter_map(asked).collect();
-        come.extend(asks.take(usize::MAX, usize::MAX));
+        let mut come = asks.take(most, usize::MAX, Instant::now());
+        if come.is_empty() {
+            let Ok(first) = events.recv() else { return };
+            come.extend(asked(first));
+        }
+        come.extend(events.try_iter().filter_map(asked));
         thread::sleep(takes);
         turns.fetch_add(1, Ordering::Relaxed);
         while !come.is_empty() {

@@ -55,7 +55,8 @@ impl Host {
         self.hold(Held { since: now, token, command, is_given_up: false, begun: Some(begun) });
     }
 
-    /// How many calls wait to be proposed. Whoever has more to ask for many clients may let these take turns meanwhile.
+    /// How many more calls the host can make use of now: those that it may propose, and some that wait. Whoever has
+    /// more to ask for many clients may let these take turns meanwhile: who comes late then waits for fewer.
     ///
     /// ```
     /// # use epaxos::{Cluster, OwnedCommand, host::{Host, Settings}, service::MemoryDisk};
@@ -63,12 +64,13 @@ impl Host {
     /// # fn main() -> Result<(), Box<dyn std::error::Error>> {
     /// let now = Instant::now();
     /// let mut host = Host::begin(&Settings::new(Cluster::Three, 0), &MemoryDisk::default(), now)?;
+    /// let before = host.wanted();
     /// host.call(7, OwnedCommand::Del { key: b"x".into() }, now);
-    /// assert_eq!(host.held(), 1);
+    /// assert_eq!(host.wanted(), before - 1);
     /// # Ok(()) }
     /// ```
-    pub fn held(&self) -> usize {
-        self.calls.held.len()
+    pub fn wanted(&self) -> usize {
+        self.calls.wanted()
     }
 
     fn hold(&mut self, held: Held) {

@@ -121,6 +121,13 @@ impl<M: Called> Calls<M> {
         self.held.len() + self.waiting.count()
     }
 
+    /// How many more calls are of use now: as many as may be proposed, and as many as go together more, so that it is
+    /// seen where others wait.
+    pub fn wanted(&self) -> usize {
+        let free = self.window.size().saturating_sub(self.waiting.count());
+        ((free + 1) * self.most_together.max(1)).saturating_sub(self.held.len())
+    }
+
     /// When calls that are held are to be looked at: those that wait for too long, or without a majority.
     pub fn due(&self) -> Option<Instant> {
         let late = self.held.front().map(|held| held.since() + self.patience)?;
@@ -373,13 +380,18 @@ mod tests {
         // Replica 2 is spared. The other one is far.
         (0..8).for_each(|_| progress.distances.note(1, FAR, start));
         let mut it = Calls::new(Duration::from_secs(5), 16, None);
+        // (all that may be proposed together, and one command more)
+        assert_eq!(it.wanted(), 33 * 16);
         it.held.extend((0..68).map(|key| put(key, start)));
         let first = keys(&it.release(&mut progress, start)).0;
         assert_eq!((first.len(), first.iter().all(|whole| whole.len() == 1), it.held.len()), (32, true, 36));
         let instance = Instance { replica: 0, number: 1 };
         let whole = |key: u8| Whole { members: Vec::new(), command: put(key, start).1 };
         (0..32).for_each(|key| it.waiting.insert((9, u32::from(key)), Waiting::new(instance, whole(key))));
-        assert!(keys(&it.release(&mut progress, start)).0.is_empty());
+        assert!(keys(&it.release(&mut progress, start)).0.is_empty() && it.wanted() == 0);
+        it.held.truncate(10);
+        assert_eq!(it.wanted(), 6);
+        it.held.extend((10..36).map(|key| put(key, start)));
         (0..2).for_each(|request| _ = it.answer((9, request), &Answer::Absent));
         let next = keys(&it.release(&mut progress, start)).0;
         assert_eq!(next.iter().map(Vec::len).collect::<Vec<_>>(), [16, 16]);

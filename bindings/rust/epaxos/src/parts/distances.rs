@@ -10,6 +10,9 @@ const BETWEEN_PINGS: Duration = Duration::from_millis(250);
 const MOST_PINGS: usize = 32;
 /// Where this replica was away for so long, what came meanwhile may have come long ago.
 const AWAY: Duration = Duration::from_millis(500);
+/// Whom proposals spare goes by the least round trip of so long a time: a queue that empties now and then is no reason
+/// to spare a peer, and one that is suddenly far is spared soon.
+const RECENT: Duration = Duration::from_secs(2);
 /// Another peer is spared only where its answers take longer by one part in so many, and by so much: so the choice
 /// stays among peers that are about as far.
 const PARTS: u32 = 16;
@@ -28,8 +31,9 @@ const BETWEEN_OWED: Duration = Duration::from_millis(10);
 #[derive(Clone)]
 struct Distance {
     is_reached: bool,
-    /// The smoothed round-trip time of pings, as RFC 6298 has it, since it is reached.
+    /// The smoothed round-trip time of pings, as RFC 6298 has it, and the least lately, since it is reached.
     smoothed: Option<Duration>,
+    recent: Least,
     /// The pings that it hasn't answered, with their numbers, and when the next one is due.
     pings: VecDeque<(u64, Instant)>,
     due: Instant,
@@ -63,6 +67,7 @@ impl Distances {
         let peer = Distance {
             is_reached: false,
             smoothed: None,
+            recent: Least::of(RECENT),
             pings: VecDeque::new(),
             due: now,
             distance: Least::default(),
@@ -82,6 +87,7 @@ impl Distances {
     pub fn reach(&mut self, peer: u8, is_reached: bool, now: Instant) {
         let Some(peer) = self.peer(peer).filter(|peer| peer.is_reached != is_reached) else { return };
         (peer.is_reached, peer.smoothed, peer.due) = (is_reached, None, now);
+        peer.recent = Least::of(RECENT);
         peer.pings.clear();
         peer.owed.clear();
     }
@@ -157,6 +163,7 @@ impl Distances {
         of.variation = of.smoothed.map_or(took / 2, |before| (of.variation * 3 + before.abs_diff(took)) / 4);
         of.smoothed = smoothed(of.smoothed, took);
         of.distance.note(took, now);
+        of.recent.note(took, now);
         self.hear(peer, now);
         let answers = self.peers.iter().filter_map(|peer| peer.answers).max()?;
         Some(took.max(answers)).filter(|_| peer == self.spared)
@@ -193,8 +200,8 @@ impl Distances {
         self.peers.iter().enumerate().filter(move |(place, _)| is_asked(*place)).map(|(_, peer)| peer)
     }
 
-    /// The replica that proposals spare, by what is known now: one that isn't reached, or else the one whose answers
-    /// take longest, those that are waited for too.
+    /// The replica that proposals spare, by what is known now: one that isn't reached, or else the farthest one, or one
+    /// that owes an answer for longer.
     pub fn choose(&mut self, now: Instant) -> u8 {
         let is_peer =
             |(number, peer): (usize, &Distance)| (number as u8 != self.me).then(|| (number as u8, peer.takes(now)));
@@ -274,7 +281,7 @@ impl Distance {
         match self.smoothed {
             _ if !self.is_reached => Takes::Ever,
             None => Takes::Unknown,
-            Some(smoothed) => Takes::So(smoothed.max(waits)),
+            Some(_) => Takes::So(self.recent.of_any().max(waits)),
         }
     }
 }
@@ -320,6 +327,24 @@ mod tests {
         assert_eq!(it.choose(now), 1);
         (0..30).for_each(|_| measure(&mut it, 2, ms(162), &mut now));
         assert_eq!(it.choose(now), 2);
+    }
+
+    #[test]
+    fn who_has_a_queue_now_and_then_isnt_spared_for_it() {
+        let (mut it, mut now) = measured(1, 2);
+        assert_eq!(it.choose(now), 2);
+        // The queues before one peer, and then before the other one, get long and empty again.
+        for round in 0..200 {
+            let long = |peer: u64| if (round + peer) % 4 == 0 { peer } else { 20 + (round / 20 + peer) % 2 * 60 };
+            [1, 2].into_iter().for_each(|peer| measure(&mut it, peer, ms(long(peer.into())), &mut now));
+            assert_eq!(it.choose(now), 2, "{round}");
+        }
+        // One that is suddenly far is spared within seconds.
+        let begin = now;
+        while it.choose(now) == 2 {
+            [(1, 200), (2, 2)].into_iter().for_each(|(peer, took)| measure(&mut it, peer, ms(took), &mut now));
+        }
+        assert!(now - begin <= RECENT + 2 * BETWEEN_PINGS);
     }
 
     #[test]

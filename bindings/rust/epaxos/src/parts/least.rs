@@ -1,34 +1,46 @@
-//! The least of what was measured in the last minute, as BBR has it of round trips.
+//! The least of what was measured lately, as BBR has it of round trips.
 use std::collections::VecDeque;
 use std::time::{Duration, Instant};
 
-/// So long what was measured counts.
+/// So long what was measured counts, where nothing else is said.
 const REMEMBERED: Duration = Duration::from_secs(60);
-/// Of what is measured within so long only the least is kept.
-const APART: Duration = Duration::from_secs(2);
+/// Of what is measured within one of so many parts of that only the least is kept.
+const PARTS: u32 = 30;
 /// The least of so few may be no good one, as all of them may have met other work.
 const FEWEST: u8 = 8;
 
-/// The least of the last minute.
-#[derive(Clone, Default)]
+/// The least of the last minute, or of another time.
+#[derive(Clone)]
 pub struct Least {
+    remembered: Duration,
     /// When something was measured, and how long it took: each is less than all behind it.
     rising: VecDeque<(Instant, Duration)>,
     /// How many were measured, up to the fewest that count.
     count: u8,
 }
 
+impl Default for Least {
+    fn default() -> Least {
+        Least::of(REMEMBERED)
+    }
+}
+
 impl Least {
+    /// The least of so long a time.
+    pub fn of(remembered: Duration) -> Least {
+        Least { remembered, rising: VecDeque::new(), count: 0 }
+    }
+
     /// Something took so long, which ended now.
     pub fn note(&mut self, took: Duration, now: Instant) {
         self.count = FEWEST.min(self.count + 1);
-        while self.rising.front().is_some_and(|(at, _)| now >= *at + REMEMBERED) {
+        while self.rising.front().is_some_and(|(at, _)| now >= *at + self.remembered) {
             self.rising.pop_front();
         }
         while self.rising.back().is_some_and(|(_, before)| *before >= took) {
             self.rising.pop_back();
         }
-        if self.rising.back().is_none_or(|(at, _)| now >= *at + APART) {
+        if self.rising.back().is_none_or(|(at, _)| now >= *at + self.remembered / PARTS) {
             self.rising.push_back((now, took));
         }
     }
