@@ -45,6 +45,7 @@ use store::ops::say::{error, name, say, warn};
 use store::peer::peers::{MOST_REPLICAS, Membership, Near, Peers, TcpReceiver};
 use store::peer::sealed::{Key, KeyFault};
 use store::peer::seen::Seen;
+use store::peer::twice::Start;
 use store::random::Random;
 use store::receipts::Receipts;
 use store::receipts_fault::ReceiptsFault;
@@ -128,12 +129,15 @@ const PASSING: u8 = 1;
 const LASTING: u8 = 3;
 /// The folder is an older copy: another machine has to take the number.
 const OLDER: u8 = 4;
+/// Another process with the replica's number and identity runs too.
+const TWICE: u8 = 5;
 
 impl StoreFault {
     fn status(&self) -> u8 {
         let is_lasting = match self {
             StoreFault::Stop(StopFault::Asked) => return 0,
             StoreFault::Stop(stop) if stop.is_older() => return OLDER,
+            StoreFault::Stop(StopFault::Twice(_)) => return TWICE,
             StoreFault::Directory(fault) => fault.is_lasting(),
             StoreFault::Identities(_)
             | StoreFault::Starts(_)
@@ -253,7 +257,8 @@ fn start(options: Options, due: Arc<Due>) -> Result<Serving, StoreFault> {
     }
     let addresses = if joins { options.peers.clone() } else { addresses(&options, &host)? };
     let place = (replica, addresses.len() as u8);
-    let membership = Arc::new(Membership::new(place, identities, key.unwrap_or_else(Key::none), joins));
+    let (key, start) = (key.unwrap_or_else(Key::none), Start::now().map_err(StoreFault::File)?);
+    let membership = Arc::new(Membership::new(place, identities, key, start, joins));
     let near = Arc::new(Near { membership: membership.clone(), events: sender.clone() });
     let peers = Peers::start(&near, &addresses).map_err(StoreFault::Thread)?;
     let receiver = Arc::new(TcpReceiver::new(near));

@@ -2,3 +2,4 @@
 pub mod peers;
 pub mod sealed;
 pub mod seen;
+pub mod twice;

@@ -61,6 +61,30 @@ fn has_opening(places: &Places, replica: usize) -> bool {
     places.directory(replica).join("opening.take").exists()
 }
 
+/// A store's folder is copied while it runs, and the copy is started at another address.
+#[test]
+fn a_copy_that_runs_elsewhere_ends_and_all_goes_on() {
+    let places = Places::new("twice");
+    let stores = [0, 1, 2].map(|replica| places.start(replica));
+    set(&stores.each_ref(), 0..30);
+    assert!(Command::new("cp").arg("-r").args([places.directory(2), places.directory(3)]).status().unwrap().success());
+    let peers = [0, 1, 3].map(|place| places.peer(place)).join(",");
+    let mut command = Command::new(env!("CARGO_BIN_EXE_store"));
+    command.args(["--replica", "2", "--peers", &peers, "--listen", &places.port(3).to_string()]);
+    let mut copy = places.launch(command.arg("--dir").arg(places.directory(3)), 3);
+    assert_eq!(copy.status(), Some(5), "{}", copy.logged());
+    assert!(copy.logged().contains("which runs too and was started earlier"), "{}", copy.logged());
+    stores[2].await_logged("which was started later, and is to end");
+    set(&stores.each_ref(), 30..60);
+    stores.iter().for_each(|store| has_all(store, 0..60));
+    // (a store that is started again is no second one)
+    let [zero, one, two] = stores;
+    drop(two);
+    let two = places.start(2);
+    set(&[&zero, &one, &two], 60..90);
+    has_all(&two, 0..90);
+}
+
 #[test]
 fn four_new_machines_are_lost() {
     let places = Places::new("grown");

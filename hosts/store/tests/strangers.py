@@ -195,7 +195,7 @@ def at_peers(cluster, until):
             if kind == 0:
                 it.sendall(random.randbytes(random.randrange(1, 3000)))
             elif kind == 1:
-                hello = b"EPST\x04" + bytes([3, random.randrange(3), cluster.peers.index(port)]) + random.randbytes(16)
+                hello = b"EPST\x05" + bytes([3, random.randrange(3), cluster.peers.index(port)]) + random.randbytes(16)
                 it.sendall(hello)
                 it.settimeout(0.5)
                 answer = it.recv(4096)

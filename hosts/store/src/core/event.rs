@@ -15,6 +15,8 @@ pub enum Event {
     PeerCame(u8),
     /// A machine of this identity waits to be let in under this number.
     Waits(u8, Identity),
+    /// This peer knows another process of this replica's number and identity, which was started before this one.
+    Twice(u8),
     /// Clients have asked something ([`Asks`](crate::core::asks::Asks)).
     Asked,
     /// An operator asks, or a thread of this store.

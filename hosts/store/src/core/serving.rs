@@ -215,6 +215,7 @@ impl Serving {
             }
             Event::PeerCame(peer) => self.it.peers.hurry(peer),
             Event::Waits(replica, identity) => host.note_waiting(replica, identity, now),
+            Event::Twice(peer) => return Err(StopFault::Twice(peer)),
             Event::Worked(worked) => worked.report(host, now),
             Event::End => {
                 host.end(now);

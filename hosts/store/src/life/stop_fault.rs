@@ -11,6 +11,8 @@ pub enum StopFault {
     Receipts(ReceiptsFault),
     /// The folder can't be written.
     Disk(io::Error),
+    /// This peer knows another process of this replica's number and identity, which was started before this one.
+    Twice(u8),
     /// It was asked to end.
     Asked,
     /// Nobody is left who could ask.
@@ -56,6 +58,11 @@ impl fmt::Display for StopFault {
             StopFault::Host(fault) => fault.fmt(f),
             StopFault::Receipts(fault) => fault.fmt(f),
             StopFault::Disk(error) => error.fmt(f),
+            StopFault::Twice(peer) => write!(
+                f,
+                "replica {peer} knows another process of this one's number and identity, which runs too and was \
+                 started earlier: one folder is a copy of the other one, and only one may be used. This process ends"
+            ),
             StopFault::Asked => write!(f, "it ends as it was told to"),
             StopFault::Alone => write!(f, "all threads have ended"),
         }

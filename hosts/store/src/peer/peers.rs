@@ -1,7 +1,8 @@
 //! The other replicas: the links to them, by TCP ([`TcpSender`]), and who is taken for one.
 //!
-//! A greeting has the identity of who connects, and whether it waits to be let in, or only asks who is here; the
-//! answer says whether its frames are taken, and has the identity of who listens.
+//! A greeting has the identity of who connects, its process's start, and whether it waits to be let in, or only asks
+//! who is here; the answer says whether its frames are taken, and has the identity of who listens, and the start of
+//! another process of the same number that was met since, if there is one ([`twice`](crate::peer::twice)).
 use crate::connect_fault::ConnectFault;
 use crate::core::event::Event;
 use crate::life::identities::{Identities, Identity};
@@ -9,6 +10,7 @@ use crate::link::Link;
 use crate::link_fault::LinkFault;
 use crate::ops::say::{say, warn};
 use crate::peer::sealed::{Hello, HmacSha256, Key, MAGIC, Magic};
+use crate::peer::twice::{Beside, Others, Start, Starts};
 use epaxos::parts::ends::Ends;
 use epaxos::parts::happened::Happened;
 use epaxos::parts::place;
@@ -38,14 +40,19 @@ pub struct Membership {
     pub replica: u8,
     pub identities: Identities,
     pub key: Key,
+    /// Others that have this one's number; and the processes that have greeted this one.
+    others: Others,
+    starts: Starts,
     waits: AtomicBool,
     /// How many replicas there are now.
     size: AtomicU8,
 }
 
 impl Membership {
-    pub fn new((replica, size): (u8, u8), identities: Identities, key: Key, waits: bool) -> Membership {
-        Membership { replica, identities, key, waits: waits.into(), size: size.into() }
+    /// That of a process which starts so.
+    pub fn new((replica, size): (u8, u8), identities: Identities, key: Key, start: Start, waits: bool) -> Membership {
+        let (others, starts) = (Others::new(start), Starts::default());
+        Membership { replica, identities, key, others, starts, waits: waits.into(), size: size.into() }
     }
 
     fn size(&self) -> u8 {
@@ -70,21 +77,23 @@ impl Membership {
 
     /// What this replica greets by, and says of itself.
     fn greeting(&self, says: &[u8]) -> Vec<u8> {
-        [&self.identities.own()[..], says].concat()
+        [&self.identities.own()[..], &self.others.own().0, says].concat()
     }
 }
 
-/// An answer to a greeting: its first byte, and who listens.
-fn read_answer(answer: &[u8]) -> Result<(u8, Identity), ConnectFault> {
-    let (first, identity) = answer.split_first().ok_or(ConnectFault::Failed)?;
-    Ok((*first, identity.try_into().map_err(|_| ConnectFault::Failed)?))
+/// An answer to a greeting: its first byte, who listens, and another start of who has greeted.
+fn read_answer(answer: &[u8]) -> Option<(u8, Identity, Option<Start>)> {
+    let (first, rest) = answer.split_first()?;
+    let (identity, start) = rest.split_first_chunk()?;
+    let start = if start.is_empty() { None } else { Some(Start(start.try_into().ok()?)) };
+    Some((*first, *identity, start))
 }
 
 /// Who listens for its peers at this address, under this number. Nothing comes of the connection.
 pub fn who_is_at(membership: &Membership, replica: u8, address: &str) -> Result<Identity, ConnectFault> {
     let (hello, greeting) = (membership.hello(replica)?, membership.greeting(&[ASKS]));
     let (.., answer) = greet(&membership.key, &hello, address, &greeting)?;
-    read_answer(&answer).map(|(_, identity)| identity)
+    read_answer(&answer).map(|(_, identity, _)| identity).ok_or(ConnectFault::Failed)
 }
 
 /// The ends here of the links to all peers, and where what happens goes.
@@ -112,16 +121,19 @@ impl Ends for Near {
     }
 
     fn judge(&self, peer: u8, answer: &[u8]) -> Result<(), ConnectFault> {
-        match read_answer(answer)? {
-            (ACCEPTED, identity) if self.membership.identities.meet(peer, identity)? => Ok(()),
-            (ACCEPTED, _) => Err(ConnectFault::OtherPeer),
-            (NOT_LET_IN, _) => Err(ConnectFault::NotLetIn),
+        match read_answer(answer).ok_or(ConnectFault::Failed)? {
+            (ACCEPTED, identity, other) if self.membership.identities.meet(peer, identity)? => {
+                other.map_or(Ok(()), |other| self.hear_of(peer, other))
+            }
+            (ACCEPTED, ..) => Err(ConnectFault::OtherPeer),
+            (NOT_LET_IN, ..) => Err(ConnectFault::NotLetIn),
             _ => Err(ConnectFault::NotKnown),
         }
     }
 
     fn answer(&self, from: u8, greeting: &[u8]) -> io::Result<Option<(Vec<u8>, Option<Identity>)>> {
-        let Some((identity, says)) = greeting.split_first_chunk() else { return Ok(None) };
+        let Some((identity, rest)) = greeting.split_first_chunk() else { return Ok(None) };
+        let Some((start, says)) = rest.split_first_chunk() else { return Ok(None) };
         let (identity, membership) = (*identity, &self.membership);
         let answer = match says {
             [ASKS] => ACCEPTED,
@@ -142,7 +154,9 @@ impl Ends for Near {
             _ => return Ok(None),
         };
         let is_taken = answer == ACCEPTED && says != [ASKS];
-        Ok(Some(([&[answer][..], &membership.identities.own()].concat(), is_taken.then_some(identity))))
+        let other = if is_taken { membership.starts.greet(from, Start(*start)) } else { None };
+        let other = other.map_or(Vec::new(), |start| start.0.into());
+        Ok(Some(([&[answer][..], &membership.identities.own(), &other].concat(), is_taken.then_some(identity))))
     }
 
     /// (a seal may have named another machine since)
@@ -162,6 +176,24 @@ impl Ends for Near {
 
     fn log(&self, is_well: bool, line: &str) {
         if is_well { say(line) } else { warn(line) }
+    }
+}
+
+impl Near {
+    /// A peer has met another process of this one's number and identity. Both are told, and the later start ends.
+    fn hear_of(&self, peer: u8, other: Start) -> Result<(), ConnectFault> {
+        match self.membership.others.hear(other) {
+            Beside::GoesOn(true) => warn(&format!(
+                "replica {peer} knows another process of this one's number and identity, which was started later, \
+                 and is to end: its folder is a copy of this one, and must never be started again"
+            )),
+            Beside::Ends => {
+                let _ = self.events.send(Event::Twice(peer));
+                return Err(ConnectFault::Twice);
+            }
+            Beside::GoesOn(false) | Beside::Waits => {}
+        }
+        Ok(())
     }
 }
 

@@ -7,7 +7,7 @@ pub use epaxos::parts::secret::{KeyFault, read_secret};
 use ring::hmac::{Context, HMAC_SHA256};
 
 /// What a connection of stores begins with.
-pub const MAGIC: Magic = *b"EPST\x04";
+pub const MAGIC: Magic = *b"EPST\x05";
 
 pub type Key = sealed::Key<HmacSha256>;
 pub type Channel = sealed::Channel<HmacSha256>;

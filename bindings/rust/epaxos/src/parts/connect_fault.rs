@@ -15,6 +15,8 @@ pub enum ConnectFault {
     NotLetIn,
     /// Another replica is known under its number.
     OtherPeer,
+    /// It knows another process that has this one's number and identity, and runs too.
+    Twice,
 }
 
 impl ConnectFault {
@@ -40,6 +42,7 @@ impl fmt::Display for ConnectFault {
             ConnectFault::OtherKey => "has another key than this one",
             ConnectFault::NotKnown => "knows another replica under this one's number: this one must not come back",
             ConnectFault::NotLetIn => "hasn't let this machine in yet",
+            ConnectFault::Twice => "knows another process that has this one's number and identity, and runs too",
             ConnectFault::OtherPeer => "isn't the replica that is known under its number: it must not come back",
         })
     }
