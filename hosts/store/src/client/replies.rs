@@ -17,7 +17,16 @@ const MOST_UNDER_WAY: usize = 1_024;
 /// Replies wait where their client hasn't taken so many bytes of those before.
 const MOST_UNSENT: usize = 64 << 10;
 /// So much is sent to a connection in its turn: who takes much keeps nobody else waiting for all of it.
-pub const SLICE: usize = 64 << 10;
+pub const SLICE: usize = 16 << 10;
+/// Replies that may get long are asked for as long as they likely have so much together: who takes none of them has
+/// cost no more.
+const BURST: usize = 2 << 20;
+/// As long a reply likely is before the first one has come; and each that is shorter than is likely changes that by one
+/// part in so many.
+const LIKELY: usize = 64 << 10;
+const PARTS: usize = 16;
+/// A longer reply may be a long one.
+const SHORT: usize = 1 << 10;
 /// A client that takes nothing for so long is gone; one whose replies take half of what a connection may have, sooner.
 const WRITE_PATIENCE: Duration = Duration::from_secs(30);
 const SHORT_PATIENCE: Duration = Duration::from_secs(5);
@@ -214,8 +223,11 @@ pub struct Replies {
     /// What all that isn't sent takes, words and replies, and what it may take.
     bytes: usize,
     most: usize,
-    /// What those parts of replies take at most that haven't come.
+    /// What those parts of replies take at most that haven't come, how many of them may be long, and how long one of
+    /// these likely is.
     expected: usize,
+    long: usize,
+    likely: usize,
     /// Since when the client takes nothing, if it doesn't.
     stuck: Option<Instant>,
 }
@@ -236,6 +248,8 @@ impl Replies {
             bytes: 0,
             most,
             expected: 0,
+            long: 0,
+            likely: LIKELY,
             stuck: None,
         }
     }
@@ -244,8 +258,16 @@ impl Replies {
     /// takes no replies none is taken.
     pub fn has_room(&self, needs: Needs) -> bool {
         let bytes = self.bytes + self.expected + needs.parts * needs.longest;
-        let fits = bytes <= self.most && self.under_way + needs.parts <= MOST_UNDER_WAY;
+        let likely = self.bytes + (self.long + needs.parts) * self.likely.min(needs.longest);
+        let is_little = needs.longest <= SHORT || likely <= self.most.min(BURST);
+        let fits = bytes <= self.most && is_little && self.under_way + needs.parts <= MOST_UNDER_WAY;
         self.stuck.is_none() && (self.under_way == 0 || fits)
+    }
+
+    /// So many parts of a reply, of so many bytes at most, are expected no more.
+    fn note_come(&mut self, parts: usize, longest: usize) {
+        self.expected -= parts * longest;
+        self.long -= if longest > SHORT { parts } else { 0 };
     }
 
     /// What all that isn't sent takes.
@@ -266,7 +288,9 @@ impl Replies {
     /// A command has begun: its number.
     pub fn begin(&mut self, slot: Slot) -> u64 {
         self.under_way += slot.parts.len();
-        self.expected += slot.count_expected() * slot.longest;
+        let parts = slot.count_expected();
+        self.expected += parts * slot.longest;
+        self.long += if slot.longest > SHORT { parts } else { 0 };
         self.bytes += slot.share.as_ref().map_or(0, Share::bytes);
         self.slots.push_back(slot);
         self.first + self.slots.len() as u64 - 1
@@ -277,14 +301,17 @@ impl Replies {
         // (what comes too late is of no use)
         let place = command.checked_sub(self.first).map(|place| place as usize);
         let Some(slot) = place.and_then(|place| self.slots.get_mut(place)) else { return };
-        let bytes = reply.size();
+        let (bytes, longest) = (reply.size(), slot.longest);
         if let Some(share) = &mut slot.share {
             share.count(bytes);
             self.bytes += bytes;
         }
-        if let Some(part) = slot.parts.get_mut(part) {
-            self.expected -= if part.is_expected() { slot.longest } else { 0 };
-            *part = Part::Come(reply);
+        let Some(part) = slot.parts.get_mut(part) else { return };
+        if std::mem::replace(part, Part::Come(reply)).is_expected() {
+            self.note_come(1, longest);
+        }
+        if longest > SHORT {
+            self.likely = bytes.max(self.likely - self.likely / PARTS);
         }
     }
 
@@ -394,8 +421,9 @@ impl Replies {
                 *part = Part::Come(reply);
             }
         }
-        self.expected -= (before - slot.count_expected()) * slot.longest;
         slot.deadline = now + SOON;
+        let (parts, longest) = (before - slot.count_expected(), slot.longest);
+        self.note_come(parts, longest);
     }
 }
 
@@ -465,6 +493,28 @@ mod tests {
     }
 
     #[test]
+    fn long_replies_are_asked_for_few_at_a_time() {
+        let (store, memory, due) = (Store::new(), Memory::new(1 << 30), Arc::<Due>::default());
+        let (most, longest) = (32 << 20, 65_525);
+        let mut replies = Replies::new(store.keys.clone(), Arc::default(), most);
+        let mut count = |length| {
+            let numbers: Vec<u64> = (0..MOST_UNDER_WAY)
+                .map_while(|_| {
+                    let has_room = replies.has_room(Needs { parts: 1, longest });
+                    has_room.then(|| replies.begin(slot((1, longest), memory.share(0), &due)))
+                })
+                .collect();
+            numbers.iter().for_each(|number| replies.take(*number, 0, Reply::Bulk(vec![b'v'; length])));
+            replies.send(&mut Taking(Vec::new(), usize::MAX), &mut usize::MAX.clone()).unwrap();
+            assert!((replies.expected, replies.long, replies.bytes()) == (0, 0, 0));
+            numbers.len()
+        };
+        // Nobody knows how long they get; they are short, and so more are asked for, as far as they can't get too long.
+        assert_eq!([count(100), count(100)], [32, 252]);
+        assert_eq!([count(100), count(60_000), count(60_000)], [512, 512, 34]);
+    }
+
+    #[test]
     fn who_takes_much_gets_a_slice_in_its_turn() {
         let (store, memory, due) = (Store::new(), Memory::new(1 << 30), Arc::<Due>::default());
         let mut replies = Replies::new(store.keys.clone(), Arc::default(), usize::MAX);
@@ -473,11 +523,11 @@ mod tests {
             replies.begin(slot((1, 0), memory.share(10), &due));
             replies.take(number, 0, Reply::Bulk(vec![b'v'; 60_000]));
         }
-        for turn in 1..40 {
+        for turn in 1..180 {
             replies.send(&mut client, &mut SLICE.clone()).unwrap();
             assert!(client.0.len() == turn * SLICE && replies.is_sending());
         }
-        (0..10).for_each(|_| replies.send(&mut client, &mut SLICE.clone()).unwrap());
+        (0..9).for_each(|_| replies.send(&mut client, &mut SLICE.clone()).unwrap());
         assert!(replies.is_over() && !replies.is_sending() && memory.used() == 0);
     }
 

@@ -40,8 +40,9 @@ const TICK: Duration = Duration::from_secs(1);
 /// Who leaves and waits for the others says so that often.
 const BETWEEN_WORDS: Duration = Duration::from_secs(60);
 /// So many commands of clients are taken at once at most, of those that the host can make use of, and so many of their
-/// reads are there; the rest waits here, where connections take turns.
+/// reads, of which so many are there; the rest waits here, where connections take turns.
 const MOST_COMMANDS: usize = 256;
+const MOST_AT_ONCE: usize = 64;
 const MOST_READS: usize = 512;
 /// Who was asked to end waits so long for what is under way.
 const MOST_WAIT_FOR_END: Duration = Duration::from_secs(5);
@@ -197,8 +198,8 @@ impl Serving {
 
     /// Takes what clients ask, as far as there is room in the host: whether there was any.
     fn take_asks(&mut self, now: Instant) -> bool {
-        let (commands, reads) = (self.it.host.wanted().min(MOST_COMMANDS), MOST_READS.saturating_sub(self.reading));
-        let asks = self.it.asks.take(commands, reads, now);
+        let reads = MOST_READS.saturating_sub(self.reading).min(MOST_AT_ONCE);
+        let asks = self.it.asks.take(self.it.host.wanted().min(MOST_COMMANDS), reads, now);
         let is_some = !asks.is_empty();
         asks.into_iter().for_each(|Ask { what, reply }| self.ask(what, reply, now));
         is_some
