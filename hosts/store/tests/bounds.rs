@@ -150,14 +150,11 @@ fn one_command_waits_for_few_turns() {
     }
     wait("the others", || memory.turns() > 2);
     let mut client = memory.client();
-    let mut waits = [0; 5].map(|_| {
-        let before = memory.turns();
-        assert_eq!(ask(&mut client, "SET x 1"), ok());
-        memory.turns() - before
-    });
-    waits.sort_unstable();
+    let before = memory.turns();
+    assert_eq!(ask(&mut client, "SET x 1"), ok());
+    let waited = memory.turns() - before;
     // (all that waits takes 250; and a thread may have to wait for a processor)
-    assert!(waits[2] < 20, "{waits:?}");
+    assert!(waited < 50, "{waited} turns");
 }
 
 #[test]
