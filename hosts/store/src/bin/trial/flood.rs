@@ -5,6 +5,8 @@ use crate::cluster::Cluster;
 use crate::distance::begun;
 use crate::growing::processor_times;
 use crate::options::Options;
+use std::io::Write;
+use std::net::TcpStream;
 use std::sync::atomic::{AtomicBool, Ordering};
 use std::thread;
 use std::time::{Duration, Instant};
@@ -12,9 +14,22 @@ use store::random::Random;
 use testing::client::{Client, Refusal, Reply};
 
 /// How many clients there are at each level, and how many commands each sends at once.
-const LEVELS: [(usize, usize); 6] = [(6, 50), (15, 50), (30, 50), (60, 50), (20, 500), (2_000, 1)];
-/// That at which some clients send one at a time.
-const BESIDE: (usize, usize) = (60, 50);
+const LEVELS: [(usize, usize); 9] =
+    [(1, 1), (3, 3), (6, 16), (6, 50), (15, 50), (30, 50), (60, 50), (20, 500), (2_000, 1)];
+/// Those with less in flight aren't judged: a client that waits for each reply can't be as fast.
+const LEAST_JUDGED: usize = 300;
+/// Each client sends at least so many times, and no more than so many.
+const ROUNDS: (usize, usize) = (10, 2_000);
+/// Those beside whom some clients send one at a time, and how many times as many commands they send as at a level.
+const TIMES: usize = 5;
+const BESIDE: [(usize, usize); 2] = [(60, 50), (4, 1_000)];
+/// And so many of them beside so many that ask for long values and never read.
+const GOOD: usize = 32;
+const SLOW: [usize; 2] = [8, 64];
+const LONG: usize = 60_000;
+const GETS: usize = 1_000;
+/// For how long that is measured; a slow one that was closed comes again.
+const SLOWED: Duration = Duration::from_secs(10);
 const KEYS: u64 = 1_000_000;
 const LENGTH: usize = 100;
 /// Longer than a store's patience.
@@ -71,7 +86,8 @@ pub fn run(cluster: &Cluster, options: &Options) -> Result<Vec<String>, String> 
     }
     let least = costs.iter().fold(f64::MAX, |least, cost| least.min(*cost));
     let mut best: f64 = 0.0;
-    for ((clients, at_once), (rate, cost)) in LEVELS.iter().zip(rates.iter().zip(&costs)) {
+    let levels = LEVELS.iter().zip(rates.iter().zip(&costs));
+    for ((clients, at_once), (rate, cost)) in levels.filter(|(level, _)| level.0 * level.1 >= LEAST_JUDGED) {
         best = best.max(*rate);
         // (one command a system call isn't as fast as many)
         if *at_once > 1 && *rate < best * options.least_parts as f64 / 100.0 {
@@ -86,6 +102,7 @@ pub fn run(cluster: &Cluster, options: &Options) -> Result<Vec<String>, String> 
         }
     }
     report_beside(cluster, options.flood);
+    report_slow(cluster)?;
     Ok(faults)
 }
 
@@ -93,7 +110,7 @@ pub fn run(cluster: &Cluster, options: &Options) -> Result<Vec<String>, String> 
 fn flood(cluster: &Cluster, (clients, at_once): (usize, usize), commands: usize) -> Told {
     let mut all = Told::default();
     thread::scope(|scope| {
-        let rounds = commands.div_ceil(clients * at_once);
+        let rounds = commands.div_ceil(clients * at_once).clamp(ROUNDS.0, ROUNDS.1);
         let client = |place: usize| {
             let port = cluster.client_ports[place % cluster.replicas];
             scope.spawn(move || send(port, place as u64, at_once, rounds))
@@ -128,43 +145,69 @@ fn send(port: u16, seed: u64, at_once: usize, rounds: usize) -> Told {
     told
 }
 
-/// Prints how long a client of each store waits that sends one at a time, alone and beside a flood.
+/// How long clients wait that send one command at a time, so many, spread over the stores, while something is done.
+fn one_by_one(cluster: &Cluster, clients: usize, during: impl FnOnce()) -> Vec<Duration> {
+    let is_over = AtomicBool::new(false);
+    thread::scope(|scope| {
+        let client = |place: usize| {
+            let (port, is_over) = (cluster.client_ports[place % cluster.replicas], &is_over);
+            scope.spawn(move || {
+                let mut all = Told::default();
+                while !is_over.load(Ordering::Relaxed) {
+                    all.add(send(port, place as u64, 1, 20));
+                }
+                all.waits
+            })
+        };
+        let clients: Vec<_> = (0..clients).map(client).collect();
+        during();
+        is_over.store(true, Ordering::Relaxed);
+        let waits = clients.into_iter().map(|client| client.join().unwrap_or_default());
+        let mut waits: Vec<Duration> = waits.flatten().collect();
+        waits.sort_unstable();
+        waits
+    })
+}
+
+/// Prints how long a client of each store waits that sends one at a time, alone and beside floods.
 fn report_beside(cluster: &Cluster, commands: usize) {
-    let one_by_one = |is_over: &AtomicBool| {
-        thread::scope(|scope| {
-            let client = |replica: usize| {
-                scope.spawn(move || {
-                    let mut all = Told::default();
-                    while !is_over.load(Ordering::Relaxed) {
-                        all.add(send(cluster.client_ports[replica], replica as u64, 1, 20));
-                    }
-                    all.waits
-                })
-            };
-            let clients: Vec<_> = (0..cluster.replicas).map(client).collect();
-            let waits = clients.into_iter().map(|client| client.join().unwrap_or_default());
-            let mut waits: Vec<Duration> = waits.flatten().collect();
-            waits.sort_unstable();
-            waits
-        })
-    };
-    let during = |what: &(dyn Fn() + Sync)| {
-        let is_over = AtomicBool::new(false);
-        thread::scope(|scope| {
-            let waits = scope.spawn(|| one_by_one(&is_over));
-            what();
-            is_over.store(true, Ordering::Relaxed);
-            waits.join().unwrap_or_default()
-        })
-    };
-    let (alone, beside) = (during(&|| thread::sleep(ALONE)), during(&|| _ = flood(cluster, BESIDE, commands)));
-    println!(
-        "one at a time: {}; beside {} clients that send {} at once: {}",
-        waits(&alone),
-        BESIDE.0,
-        BESIDE.1,
-        waits(&beside)
-    );
+    let alone = one_by_one(cluster, cluster.replicas, || thread::sleep(ALONE));
+    println!("one at a time: {}", waits(&alone));
+    for (clients, at_once) in BESIDE {
+        let flood = || _ = flood(cluster, (clients, at_once), TIMES * commands);
+        let beside = one_by_one(cluster, cluster.replicas, flood);
+        println!("beside {clients} clients that send {at_once} at once: {}", waits(&beside));
+    }
+}
+
+/// Prints how long clients of the first store wait alone, and beside some that never read.
+fn report_slow(cluster: &Cluster) -> Result<(), String> {
+    let port = cluster.client_ports[0];
+    let connect = || Client::connect(port, PATIENCE).map_err(|error| error.to_string());
+    connect()?.ask(&[b"SET", b"long", &[b'v'; LONG]]).map_err(|error| error.to_string())?;
+    let alone = one_by_one(cluster, GOOD, || thread::sleep(ALONE));
+    println!("{GOOD} clients, one at a time each: {}", waits(&alone));
+    for count in SLOW {
+        let beside = one_by_one(cluster, GOOD, || never_read(port, count));
+        println!("beside {count} that never read: {}", waits(&beside));
+    }
+    Ok(())
+}
+
+/// So many clients that ask for long values and never read; each that is closed comes again.
+fn never_read(port: u16, count: usize) {
+    let (start, gets) = (Instant::now(), b"GET long\r\n".repeat(GETS));
+    let mut slow: Vec<Option<TcpStream>> = (0..count).map(|_| None).collect();
+    while start.elapsed() < SLOWED {
+        for place in &mut slow {
+            let is_closed = |stream: &TcpStream| (&*stream).write(b"\r\n").is_err();
+            if place.as_ref().is_none_or(is_closed) {
+                let stream = TcpStream::connect(("127.0.0.1", port)).ok();
+                *place = stream.filter(|stream| (&*stream).write_all(&gets).is_ok());
+            }
+        }
+        thread::sleep(Duration::from_millis(100));
+    }
 }
 
 fn waits(sorted: &[Duration]) -> String {

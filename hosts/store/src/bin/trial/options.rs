@@ -37,7 +37,8 @@ trial: a cluster of stores on this machine, clients, kills and cuts; then what t
                      behind it, M machines are replaced in the end
     --flood N        no kills: up to 2,000 clients send up to 500 commands at once, N in all at each of some levels.
                      Told is how fast that goes, what processor time it takes, and how long a client waits that sends
-                     one at a time; judged is that no level is much slower than those with less in flight
+                     one at a time, alone, beside floods, and beside clients that never read; judged is that no level
+                     is much slower than those with less in flight
     --least P        with --flood: a level has to reach P parts of 100 of the best rate before it; default 80
     --delay MS       with --growing: those machines are so far from the others
     --replicas N     3, the default, or 5 or 7
