@@ -51,7 +51,10 @@ def every():
     with open(LIST, encoding="utf-8") as lines:
         rows = [[it.strip() for it in line.split("|")] for line in lines if not line.startswith("#")]
     of = lambda packages: packages.split() if packages != "-" else []
-    return {name: Need(name, of(packages), commands.split(), purpose) for name, packages, commands, purpose in rows}
+    found = {name: Need(name, of(packages), commands.split(), purpose) for name, packages, commands, purpose in rows}
+    if len(found) != len(rows):
+        raise ValueError(f"{LIST} names something twice")
+    return found
 
 
 def lacking(command):
