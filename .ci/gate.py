@@ -35,7 +35,6 @@ import kept
 import lanes
 import launcher
 import library
-import moved
 import needs
 import page
 import release
@@ -197,12 +196,6 @@ def refused_memory():
         for chain in (names, names[::-1]):
             for form in ([], ["--emit", "json"]):
                 yield swept("memory", ["ep_main", "--", "audit", "--chain", *chain, *form], b"")
-        print("logs of version 2 whose opening is made, and logs that are refused, with each allocation refused:", flush=True)
-        for name, it in (("both", moved.Apart(True)), ("waits", moved.Apart(False))):
-            for log, held in moved.kept(it).items():
-                with open(f"{folder}/{name}-{log}", "wb") as file:
-                    file.write(held)
-            yield swept("memory", ["ep_server", MOST, "--", "move-logs", *(f"{folder}/{name}-{log}" for log in moved.kept(it))], b"")
 
 
 def refused_starts():

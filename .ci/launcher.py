@@ -40,7 +40,7 @@ FOUR_WHY = "  line 1, word 2: 4 is out of range: how many replicas there are, 3,
 CUT_WHY = "  do: copy the bundle again from where it was made, or make it anew from the logs by `epaxos collect`\n"
 # the commands of tools, and a word that each doesn't take
 OF_TOOLS = {"up": "now", "status": "now", "kill": "3", "replace": "", "down": "1", "test": "now"}
-OLD = "epaxos {}: it is `epaxos {}` now, and these words go with the next version\n"
+OLD = "epaxos {}: it is `epaxos trace` now, and these words go with the next version\n"
 
 # In the place of the build: leaves the program that is asked for, and notes the words.
 BUILDS_ONE = """#!/bin/bash
@@ -272,14 +272,12 @@ def belonging(room):
     yield "help show now", room.run("--quiet help show now")[:2], (2, "")
     yield "--version of the launcher", {subprocess.run([f"{room.top}/out/unproved/{it}", "--version"], stdout=subprocess.PIPE, text=True).stdout for it in PROGRAMS}, {room.run("--version")[1].partition("\n")[0] + "\n"}
     for old, new, said in (
-        ("replay --emit trace", "trace", ("replay --emit trace", "trace")),
-        ("replay --emit=trace", "trace", ("replay --emit=trace", "trace")),
-        ("replay --emit trace --help", "trace --help", ("replay --emit trace", "trace")),
-        ("upgrade --log one.log", "move-logs one.log", ("upgrade --log", "move-logs")),
-        ("upgrade one.log --log two.log", "move-logs one.log two.log", ("upgrade --log", "move-logs")),
+        ("replay --emit trace", "trace", "replay --emit trace"),
+        ("replay --emit=trace", "trace", "replay --emit=trace"),
+        ("replay --emit trace --help", "trace --help", "replay --emit trace"),
     ):
         status, wrote, told = room.run(f"--quiet {new}", SCRIPT)
-        yield f"{old}, of an earlier version", room.run(f"--quiet {old}", SCRIPT), (status, wrote, OLD.format(*said) + told)
+        yield f"{old}, of an earlier version", room.run(f"--quiet {old}", SCRIPT), (status, wrote, OLD.format(said) + told)
     for words in ("replay --emit report", "replay --emit bundle", "upgrade --to 3"):
         yield f"{words}, of this version", "goes with" in room.run(f"--quiet {words}", SCRIPT)[2], False
 

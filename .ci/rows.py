@@ -13,8 +13,8 @@ A row is a folder .ci/rows/NAME with files, each of which may lack:
 PROGRAM is ep_main as it was built; what begins with a command of another program (commands.txt) is run by that, which was built as it was. Runs of `epaxos node`, and of `collect` on its logs, are in .ci/nodes.py.
 More rows are made of the scripts and reports in examples/ and .ci/scripts/ (NAME.script is played, NAME.run is run
 by both hosts, and where there is a NAME.trace, a NAME.mmd or a NAME.dot, NAME.script is traced
-or drawn), and by .ci/made.py, .ci/words.py, .ci/cases.py, .ci/odd.py, .ci/faults.py, .ci/generations.py, .ci/collected.py, 
-.ci/moved.py and .ci/looks.py; those of reports as JSON of the reports in text, by .ci/as_json.py. What .ci/drawn.py draws by
+or drawn), and by .ci/made.py, .ci/words.py, .ci/cases.py, .ci/odd.py, .ci/faults.py, .ci/generations.py, .ci/collected.py
+and .ci/looks.py; those of reports as JSON of the reports in text, by .ci/as_json.py. What .ci/drawn.py draws by
 chance is looked at too.
 """
 
@@ -218,13 +218,12 @@ def every():
     import generations
     import looks
     import made
-    import moved
     import odd
     import words
 
     yield from in_json(stored())
     yield from in_json(Row(**it) for it in generations.every())
-    yield from (Row(**it) for it in (*words.every(), *cases.every(), *odd.every(), *faults.every(), *collected.every(), *moved.every(), *looks.every()))
+    yield from (Row(**it) for it in (*words.every(), *cases.every(), *odd.every(), *faults.every(), *collected.every(), *looks.every()))
     yield from in_json(written())
     for name, script, report in (*made.every(), *cases.played(), *generations.played()):
         yield from played(name, script, report)

@@ -54,8 +54,6 @@ pub use generation_fault::GenerationFault;
 pub use generation_files::{collect_generation, read_opened_log, read_present};
 pub use generation_lines::push_named;
 pub use generation_names::GenerationNames;
-pub use lines::{push_refusal, push_torn};
-pub use logs::{Logs, read_logs};
 pub use map_files::show_files;
 pub use opened_log::OpenedLog;
 pub use opened_names::OpenedNames;

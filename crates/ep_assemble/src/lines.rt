@@ -70,7 +70,7 @@ pub(crate) fn name_of(names: &[String], place: usize) -> &str
 }
 
 /// Appends the line of a fault of logs and of files of receipts with these names.
-pub fn push_refusal(
+pub(crate) fn push_refusal(
     logs: &[String],
     receipts: &[String],
     fault: AssembleFault,
@@ -141,7 +141,7 @@ pub(crate) fn push_end(name: &str, end: &End, out: &mut Vec<u8>) -> Result<(), A
 }
 
 /// Appends the lines of the ends that are torn.
-pub fn push_torn(names: &[String], ends: &[End], out: &mut Vec<u8>) -> Result<(), AllocError>
+pub(crate) fn push_torn(names: &[String], ends: &[End], out: &mut Vec<u8>) -> Result<(), AllocError>
     ensures { OnOk result (out.new.items ≡ out.old.items ++ torn_lines 0 (map string_bytes names.now) ends.now) }
 {
     for (place, end) in ends.iter().enumerate() {

@@ -13,13 +13,13 @@ use std::alloc::Global;
 
 /// What the logs hold: the journal of each, and where its whole records end.
 #[derive(Drop)]
-pub struct Logs {
+pub(crate) struct Logs {
     pub journals: Vec<Journal>,
     pub ends: Vec<End>,
 }
 
 /// Reads the logs.
-pub fn read_logs(alloc: Global, logs: &[Vec<u8>]) -> Result<Logs, AssembleFault>
+pub(crate) fn read_logs(alloc: Global, logs: &[Vec<u8>]) -> Result<Logs, AssembleFault>
     ensures ok { IfOk result (λ r. AreRead (contents logs.now) r.journals.items r.ends.items) }
     ensures err { IfErr result (λ e. IsLogRefused e (contents logs.now)) }
 {

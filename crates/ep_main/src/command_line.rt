@@ -101,7 +101,6 @@ const AFTER_UPGRADE: &str = "\
 Standard input, to its end, is a bundle of version 1 or 2. Standard output is the bundle of version 2 that says the same: each
 frame is spelled in version 2, and an audit of it says what an audit of the old one says. A version 2 bundle is copied unchanged.
 With --to 3 it is the bundle of version 3 of generation 1, which opens with nothing; a version 3 bundle is copied unchanged.
-(The opening of generation 2, of the logs of a cluster of version 2, is made by `epaxos move-logs`.)
 Nothing is audited: journals and receipts that don't fit together are written as they are.
 Nothing is printed before the end is read.
 

@@ -14,8 +14,7 @@ use Rattle.ep_cli.specs.declared.files_fault.FilesFault.{FilesFault}
 use Rattle.ep_cli.specs.declared.printout.Printout.{Printout}
 use Rattle.ep_cli.specs.declared.status.Status.{Status}
 use Rattle.ep_assemble.specs.ShownFiles.{AreNotShown, AreShown}
-use Rattle.ep_moving.specs.MovedFiles.{IsNotUpgraded, IsUpgraded}
-use Rattle.ep_server.specs.NamedFiles.{CollectsFiles, CollectsGeneration, IsNamedLog, ShowsFiles, UpgradesFiles}
+use Rattle.ep_server.specs.NamedFiles.{CollectsFiles, CollectsGeneration, IsNamedLog, ShowsFiles}
 
 -- one name more, each by its folder
 pub one_more : {S : Type 0} (f : S → List ℕ) (k : List ℕ → List ℕ) (i : ℕ) (xs : List S) (x d : S) (ys ys' : List S) (y : S) → i < length xs → x ≡ get_or xs i d → map f ys ≡ map k (map f (take i xs)) →
@@ -79,10 +78,3 @@ pub are_shown :
 are_shown g folder opening_name log_name kept made status out fault named ok err puts =
     inl
     (kept, named, gives (AreShown g log_name kept.opening.items kept.digest kept.log.items) (AreNotShown g opening_name log_name kept.opening.items kept.digest kept.log.items) made status out fault ok err puts)
-
-pub are_upgraded :
-    {S : Type 0} (f : S → List ℕ) (names : List S) (logs : List (Vec ℕ)) (made : Result Printout FilesFault) (status : Status) (out fault : Output) → length logs ≡ length names →
-    IfOk made (λ p. IsUpgraded (map f names) (contents logs) p.text.items p.lines.items) → IfErr made (IsReason (IsNotUpgraded (map f names) (contents logs))) → Prints made status out fault →
-    UpgradesFiles (map f names) status out fault
-are_upgraded f names logs made status out fault all ok err puts =
-    inl (contents logs, as_many f names logs all, gives (IsUpgraded (map f names) (contents logs)) (IsNotUpgraded (map f names) (contents logs)) made status out fault ok err puts)

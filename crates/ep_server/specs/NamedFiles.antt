@@ -13,7 +13,6 @@ use Rattle.ep_cli.specs.declared.files_fault.FilesFault.TheVariants as files
 use Rattle.ep_cli.specs.declared.status.Status.{Status}
 use Rattle.ep_assemble.specs.ShownFiles.{AreNotShown, AreShown}
 use Rattle.ep_folder.specs.Paths.{file_path}
-use Rattle.ep_moving.specs.MovedFiles.{IsNotUpgraded, IsUpgraded}
 use Rattle.ep_opening.specs.Bytes.{opening_bytes}
 use Rattle.ep_server.specs.Faults.{line_of_folder}
 use Rattle.ep_server.specs.Replays.{HasOpened}
@@ -79,8 +78,3 @@ abbrev pub ShowsFiles : ℕ → List ℕ → List ℕ → List ℕ → Status �
 ShowsFiles g folder opening_name log_name status out fault =
     ((kept : OpenedLog) × IsNamedLog kept × Gives (AreShown g log_name kept.opening.items kept.digest kept.log.items) (AreNotShown g opening_name log_name kept.opening.items kept.digest kept.log.items) status out fault)
     ⊎ AreUnread (λ why. IsOfFile opening_name why ⊎ IsOfFile log_name why ⊎ IsUnopened folder why) status out fault
-
--- The logs of a cluster of version 2, of which the opening of generation 2 is made.
-abbrev pub UpgradesFiles : List (List ℕ) → Status → Output → Output → Type 0
-UpgradesFiles names status out fault =
-    ((logs : List (List ℕ)) × (length logs ≡ length names) × Gives (IsUpgraded names logs) (IsNotUpgraded names logs) status out fault) ⊎ AreUnread (IsUnread names) status out fault

@@ -12,7 +12,7 @@ ghost use Rattle.ep_server.specs.declared.asks.Asks.TheVariants as asks;
 
 use crate::asks::Asks;
 use crate::collect_names::CollectNames;
-use crate::commands::{collect, contents, move_logs, node};
+use crate::commands::{collect, contents, node};
 use crate::folder_options::FolderOptions;
 use crate::generation_asked::GenerationAsked;
 use crate::options::Options;
@@ -33,7 +33,7 @@ pub(crate) fn read_words<'a, T: AsStr>(
     alloc: Global,
     words: &'a [T],
 ) -> Result<ServerAsked<'a>, WordsFault> {
-    let command = program(alloc, &[node(), collect(), contents(), move_logs()])?;
+    let command = program(alloc, &[node(), collect(), contents()])?;
     match command.try_get_matches_from(words) {
         Ok(matches) => asked_by(alloc, &matches),
         Err(error) => asked_instead(alloc, &error),
@@ -56,9 +56,6 @@ fn asked_by<'a>(alloc: Global, matches: &ArgMatches<'a>) -> Result<ServerAsked<'
     }
     if let Some(options) = matches.subcommand_matches("collect") {
         return collect_by(alloc, options);
-    }
-    if let Some(options) = matches.subcommand_matches("move-logs") {
-        return Ok(ServerAsked::Upgrade(texts_of(alloc, options, "LOG")?));
     }
     match matches.subcommand_matches("contents") {
         Some(options) => Ok(ServerAsked::Contents(options.get_str("FOLDER").unwrap_or(""))),

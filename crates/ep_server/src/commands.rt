@@ -61,26 +61,6 @@ Exit status:
   3  memory was refused
   4  a file could not be opened or read, or writing failed";
 
-/// What the help of `move-logs` says at its end.
-const AFTER_MOVE: &str = "\
-Each LOG is the log of one replica of a cluster of version 2, as `epaxos node --log` keeps it, of all its replicas, in any order; the
-cluster has stopped. Standard output is the opening of generation 2 (docs/FORMATS.md, section 12) of as many replicas: its map after all
-that any of the logs commits. A command that is committed is executed where no replica has done it yet. A log whose end is torn is taken
-up to it, which standard error says. The logs are not changed. Standard input is not read.
-
-The file is the first opening of each replica's folder. Once a replica has taken it, the old cluster must not be started again.
-
-Example:
-  epaxos move-logs zero.log one.log two.log > 2.opening
-  epaxos node --replicas 3 --replica 0 --dir zero --take 2.opening
-
-Exit status:
-  0  the opening is written
-  2  the command line or a log is refused, the logs aren't one for each replica of one cluster or don't fit together, or a command
-     that is committed waits for one that no log commits; standard error says why
-  3  memory was refused
-  4  a file could not be opened or read, or writing failed";
-
 /// The options of `node`.
 const NODE: &[ArgRow] = &[
     ArgRow {
@@ -168,15 +148,6 @@ const CONTENTS: &[ArgRow] = &[ArgRow {
     help: "The folder of a node",
 }];
 
-/// The words of `move-logs`.
-const MOVE_LOGS: &[ArgRow] = &[ArgRow {
-    name: "LOG",
-    kind: ArgKind::Word,
-    action: ArgAction::Append,
-    is_required: true,
-    help: "The log of a replica",
-}];
-
 /// The command that serves.
 pub(crate) fn node() -> CommandRow {
     CommandRow {
@@ -206,17 +177,6 @@ pub(crate) fn contents() -> CommandRow {
         about: "Prints the map of the newest generation in the folder of a node",
         after_help: AFTER_CONTENTS,
         args: CONTENTS,
-        more: &[],
-    }
-}
-
-/// The command that makes the opening of generation 2.
-pub(crate) fn move_logs() -> CommandRow {
-    CommandRow {
-        name: "move-logs",
-        about: "Makes the opening of generation 2 of the logs of a cluster of version 2",
-        after_help: AFTER_MOVE,
-        args: MOVE_LOGS,
         more: &[],
     }
 }

@@ -1,5 +1,5 @@
 //! `epaxos node`: a replica with its log in a file, which serves requests on standard input. `epaxos collect`: the bundle of
-//! logs and receipts. `epaxos contents`: the map of a folder. `epaxos move-logs`: the opening that the logs of version 2 give.
+//! logs and receipts. `epaxos contents`: the map of a folder.
 //!
 //! `main` hands the words to `read_words`, in `command_line.rt`; the commands are tables, in `commands.rt`. For a node of version 2 it opens the
 //! log, and hands it and the standard streams to `serve_log`, in `program.rt`, which is all of the node: over any device, source and sinks, so
@@ -7,8 +7,8 @@
 //! `serve_folder`, in `in_folder.rt`, does the same in the folder of a replica that lives through generations: `staging.rt` says which generation
 //! is opened, by `ep_folder`'s plan, and a generation that is closed is gone on from at once. `replaying.rt` reads what a generation opens
 //! with, for all commands alike: its file, or the logs before it that references name. `collect_named`, in `collecting.rt`, reads the files
-//! of `epaxos collect`, and prints what `ep_assemble`'s `collect_files` makes of them; so do `collect_of`, `show_named` and `upgrade_named` of the
-//! files that their commands name.
+//! of `epaxos collect`, and prints what `ep_assemble`'s `collect_files` makes of them; so do `collect_of` and `show_named` of the files
+//! that their commands name.
 //!
 //! Start with `program.rt` and specs/Served.antt, `collecting.rt` and specs/NamedFiles.antt. A fault has one line on the fault
 //! output and one status (`server_fault.rt`, `reporting.rt`, `ep_cli`), as docs/CLI.md, section 6.1, and docs/FORMATS.md, section 10, list them.
@@ -41,7 +41,6 @@ mod server_asked;
 mod server_fault;
 mod staging;
 mod unopened;
-mod upgrading;
 
 use crate::asks::Asks;
 use crate::collecting::collect_named;
@@ -55,7 +54,6 @@ use crate::program::{concluded, serve_log};
 use crate::reporting::write_place_fault;
 use crate::server_asked::ServerAsked;
 use crate::server_fault::ServerFault;
-use crate::upgrading::upgrade_named;
 use ep_base::{Noted, Sink, Source};
 use ep_cli::{Status, Streams, WordsFault, decline, read_ahead, reported, words};
 use ep_device::{DeviceFault, FileDevice, SystemFault};
@@ -115,7 +113,6 @@ fn perform<R: AllocGlobal + Files<File = File>, S: Source, W: Sink, F: Sink>(
         ServerAsked::Folder(options) => run_folder(rt, &options, streams),
         ServerAsked::Collect(names) => collect_named(rt, &names, streams),
         ServerAsked::CollectGeneration(asked) => collect_folders(rt, asked, streams),
-        ServerAsked::Upgrade(logs) => upgrade_named(rt, &logs, streams),
         ServerAsked::Contents(folder) => show_contents(rt, folder, streams),
         ServerAsked::Version => show("epaxos 1.0.0\n", streams),
         ServerAsked::Help(text) => show(text.as_str(), streams),

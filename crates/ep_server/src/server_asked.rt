@@ -16,8 +16,6 @@ pub enum ServerAsked<'a> {
     Collect(CollectNames),
     /// To make the bundle of a generation, of folders and receipts.
     CollectGeneration(GenerationAsked),
-    /// To make the opening of generation 2 of these logs.
-    Upgrade(Vec<String>),
     /// The map of the newest generation in this folder, in words.
     Contents(&'a str),
     /// The program's name and its version.

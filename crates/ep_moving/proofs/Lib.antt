@@ -1,4 +1,0 @@
-mod After
-mod FromLogs
-mod Going
-mod Listings

@@ -1,4 +1,0 @@
-pub mod Ended
-pub mod Moved
-pub mod MovedFiles
-pub mod Settled
