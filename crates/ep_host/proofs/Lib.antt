@@ -1,3 +1,4 @@
+pub mod Ordered
 pub mod Versioned
 pub mod Starting
 pub mod Copying

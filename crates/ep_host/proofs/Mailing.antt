@@ -11,8 +11,8 @@ use Rattle.ep_host.specs.Sent.{IsCopied}
 use Rattle.ep_host.specs.Setting.{LosesAll}
 use Rattle.ep_host.specs.Tasks.{next}
 use Rattle.ep_host.specs.Weathers.{kind_at, own_of}
-use Rattle.ep_inbox.specs.Ports.{put_by}
-use Rattle.ep_inbox.specs.declared.port.Port.{Port}
+use Rattle.ep_host.specs.Ports.{put_by}
+use Rattle.ep_host.specs.declared.port.Port.{Port}
 use Rattle.ep_host.specs.declared.delivery.Delivery.{Delivery}
 use Rattle.ep_host.specs.declared.delivery.Delivery.TheVariants.{Put}
 use Rattle.ep_host.specs.declared.outlet.Outlet.{Outlet}

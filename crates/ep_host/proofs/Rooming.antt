@@ -1,7 +1,7 @@
 -- What a sender does leaves its inboxes as large as they were.
 use Rattle.std.proofs.Common.{◌≡◌, ℕ, ◌<◌, List, length, get_or, ap, sym, subst, arith, All, Option}
-use Rattle.ep_inbox.specs.Ports.{inbox_capacity}
-use Rattle.ep_inbox.specs.declared.port.Port.{Port}
+use Rattle.ep_host.specs.Ports.{inbox_capacity}
+use Rattle.ep_host.specs.declared.port.Port.{Port}
 use Rattle.ep_host.specs.Outboxes.{Outbox, AreNew, IsNewOutbox, IsMailed, SetsOwn, IsLetGo, Receives, IsOpen}
 use Rattle.ep_host.specs.Rooms.{HasRoom, HaveRoom, AreRoomy}
 use Rattle.ep_host.specs.declared.outlet.Outlet.{Outlet}

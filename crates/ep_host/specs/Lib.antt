@@ -1,3 +1,5 @@
+pub mod Inboxes
+pub mod Ports
 pub mod Sent
 pub mod Starts
 pub mod HostFrames

@@ -7,8 +7,8 @@ use Rattle.ep_host.specs.Pointwise.{Each, EachAt}
 use Rattle.ep_host.specs.Sent.{IsCopied}
 use Rattle.ep_host.specs.Setting.{LosesAll}
 use Rattle.ep_host.specs.Weathers.{own_of}
-use Rattle.ep_inbox.specs.Ports.{put_by, taken_by, inbox_capacity, LeadTogether}
-use Rattle.ep_inbox.specs.declared.port.Port.{Port}
+use Rattle.ep_host.specs.Ports.{put_by, taken_by, inbox_capacity, LeadTogether}
+use Rattle.ep_host.specs.declared.port.Port.{Port}
 use Rattle.ep_host.specs.declared.delivery.Delivery.{Delivery}
 use Rattle.ep_host.specs.declared.delivery.Delivery.TheVariants.{Put}
 use Rattle.ep_host.specs.declared.outlet.Outlet.{Outlet}

@@ -1,7 +1,7 @@
 -- For how many frames the inboxes of a host have room.
 use Rattle.std.specs.Prelude.{◌≡◌, ℕ, List, All, Option, Some, None}
-use Rattle.ep_inbox.specs.Ports.{inbox_capacity}
-use Rattle.ep_inbox.specs.declared.port.Port.{Port}
+use Rattle.ep_host.specs.Ports.{inbox_capacity}
+use Rattle.ep_host.specs.declared.port.Port.{Port}
 use Rattle.ep_host.specs.Outboxes.{Outbox}
 use Rattle.ep_host.specs.declared.outlet.Outlet.{Outlet}
 

@@ -2,11 +2,11 @@
 
 use crate::frames_out::FramesOut;
 use crate::host_frame::HostFrame;
+use crate::port::Port;
 use crate::sender::Sender;
 use crate::start::Start;
 use crate::weather::Weather;
 use ep_base::ReplicaId;
-use ep_inbox::Port;
 use std::alloc::{AllocError, Global};
 use std::marker::{Model, PhantomData};
 use std::sync::Wait;
@@ -31,7 +31,7 @@ impl<S: Start> Model for HostSender<S> {
 
 impl<S: Start> HostSender<S> {
     ghost use Rattle.std.specs.Prelude.{◌≡◌, ◌<◌, length, IfOk, OnOk, OnErr};
-    ghost use Rattle.ep_inbox.specs.Ports.{inbox_capacity};
+    ghost use Rattle.ep_host.specs.Ports.{inbox_capacity};
     ghost use Rattle.ep_host.specs.HostFrames.{AreHostFrames};
     ghost use Rattle.ep_host.specs.Outboxes.{IsNewOutbox, IsMailed, SetsOwn, IsLetGo, Receives};
     ghost use Rattle.ep_host.specs.Rooms.{HasRoom, HaveRoom};

@@ -5,7 +5,7 @@
 //! the threads left. Start with specs/Tending.antt and `tending.rt`, which say exactly what one pump does to a replica, then
 //! specs/Asking.antt, which says what a call gives, and `lock_host.rt`.
 //! A replica behind a lock is what its journal leaves, and starts as all of its host do, by its type (`HostReplica`, `Start`), whatever threads do. Its
-//! inboxes are as large as the type says (`HostSender`). An inbox holds frames of versions that replicas are of, by the type of its items, in one order (`ep_inbox`). No lock of a replica is held while frames are sent. Whether the journals fit
+//! inboxes are as large as the type says (`HostSender`). An inbox holds frames of versions that replicas are of, by the type of its items, in one order (specs/Inboxes.antt). No lock of a replica is held while frames are sent. Whether the journals fit
 //! together no lock knows: `finish` asks the audit. What a replica sends and receives by is a `Sender` behind a lock of its own: the weather of its
 //! frames, an outlet for each replica of the cluster, which puts, counts and holds them, and the port to its own inbox (specs/Outboxes.antt).
 //!
@@ -31,15 +31,18 @@ mod finishing;
 mod frames_out;
 mod gate;
 mod gate_unpassed;
+mod hand;
 mod held_frames;
 mod host_fault;
 mod host_frame;
 mod host_replica;
 mod host_sender;
+mod inbox;
 mod link;
 mod lock_host;
 mod outlet;
 mod outlets;
+mod port;
 mod putting;
 mod ring_finishing;
 mod ring_host;
@@ -68,6 +71,7 @@ pub use gate_unpassed::GateUnpassed;
 pub use host_fault::HostFault;
 pub use host_frame::none_is_refused_for_its_version;
 pub use lock_host::LockHost;
+pub use port::Port;
 pub use ring_finishing::{finish, finish_with};
 pub use ring_host::RingHost;
 pub use ring_node::RingNode;

@@ -3,8 +3,8 @@
 use crate::delivery::Delivery;
 use crate::held_frames::HeldFrames;
 use crate::host_frame::HostFrame;
+use crate::port::Port;
 use crate::weather_kind::WeatherKind;
-use ep_inbox::Port;
 use std::alloc::Global;
 use std::sync::Wait;
 

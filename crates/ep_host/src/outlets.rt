@@ -11,9 +11,9 @@ ghost use Rattle.ep_host.specs.declared.delivery.Delivery.TheVariants.{Put};
 use crate::delivery::Delivery;
 use crate::host_frame::HostFrame;
 use crate::outlet::Outlet;
+use crate::port::Port;
 use crate::setting::holds;
 use crate::weather::{Weather, kind_at};
-use ep_inbox::Port;
 use std::alloc::{AllocError, Global};
 use std::sync::Wait;
 

@@ -7,10 +7,10 @@ use crate::frames_out::FramesOut;
 use crate::host_frame::HostFrame;
 use crate::outlet::Outlet;
 use crate::outlets::{count_anew, deliver, make_room, outlets_to, release_all};
+use crate::port::Port;
 use crate::weather::{Weather, own_of};
 use ep_base::ReplicaId;
 use ep_frame::Frame;
-use ep_inbox::Port;
 use std::alloc::{AllocError, Global};
 use std::marker::Model;
 use std::sync::Wait;
@@ -42,7 +42,7 @@ impl Model for Sender {
 impl Sender {
     ghost use Rattle.std.specs.Prelude.{◌≡◌, ◌<◌, ◌∷◌, [], length, IfOk, OnOk, OnErr};
     ghost use Rattle.ep_host.specs.Fates.{fate, counted_up};
-    ghost use Rattle.ep_inbox.specs.Ports.{inbox_capacity};
+    ghost use Rattle.ep_host.specs.Ports.{inbox_capacity};
     ghost use Rattle.ep_host.specs.HostFrames.{AreHostFrames};
     ghost use Rattle.ep_host.specs.Outboxes.{IsNewOutbox, Mails, IsMailed, SetsOwn, IsLetGo, Receives};
 

@@ -2,7 +2,7 @@
 use Rattle.std.specs.Prelude.{◌≡◌, ℕ, List}
 use Rattle.std.specs.Arc.{arc_value}
 use Rattle.crossbeam_queue.specs.Passes.{view, ruled_capacity}
-use Rattle.ep_inbox.specs.declared.port.Port.{Port}
+use Rattle.ep_host.specs.declared.port.Port.{Port}
 
 module _ {T : Type 0} where
   -- what this port has put into its inbox, in order

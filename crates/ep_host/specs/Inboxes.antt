@@ -2,7 +2,7 @@
 use Rattle.std.specs.Prelude.{◌≡◌, ℕ, ◌≤◌, eqb, cond, List, [], ◌∷◌, ◌++◌, length}
 use mathlib.Core.Option.{some}
 use lib.ListN.{get_elem?}
-use Rattle.ep_inbox.specs.declared.hand.Hand.{Hand}
+use Rattle.ep_host.specs.declared.hand.Hand.{Hand}
 
 module _ {T : Type 0} where
   abbrev pub hand : List T → List T → Hand T

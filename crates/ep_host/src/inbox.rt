@@ -9,7 +9,7 @@ pub struct Order;
 
 impl<T> Protocol<T, Hand<T>> for Order {
     ghost use Rattle.std.specs.Prelude.{[]};
-    ghost use Rattle.ep_inbox.specs.Order.{hand, InOrder};
+    ghost use Rattle.ep_host.specs.Inboxes.{hand, InOrder};
 
     ghost holds = { InOrder };
 
@@ -21,7 +21,7 @@ pub struct Puts;
 
 impl<T> Outcome<T, Hand<T>> for Puts {
     ghost use Rattle.std.specs.Prelude.{◌≡◌, ◌∷◌, [], ◌++◌};
-    ghost use Rattle.ep_inbox.specs.Order.{hand};
+    ghost use Rattle.ep_host.specs.Inboxes.{hand};
 
     ghost then = { λ v x w. w ≡ hand (v.put ++ x ∷ []) v.taken };
 }
@@ -38,7 +38,7 @@ pub struct Takes;
 
 impl<T> Outcome<T, Hand<T>> for Takes {
     ghost use Rattle.std.specs.Prelude.{◌≡◌, ◌∷◌, [], ◌++◌};
-    ghost use Rattle.ep_inbox.specs.Order.{hand};
+    ghost use Rattle.ep_host.specs.Inboxes.{hand};
 
     ghost then = { λ v x w. w ≡ hand v.put (v.taken ++ x ∷ []) };
 }

@@ -7,8 +7,8 @@ use mathlib.Core.Option.{some, some-injective, some-ne-none}
 use lib.ListN.{get_elem?}
 use Rattle.crossbeam_queue.specs.Fifo.{Pushes, Pops, Admits}
 use Rattle.crossbeam_queue.proofs.Lists.{at_set}
-use Rattle.ep_inbox.specs.declared.hand.Hand.{Hand}
-use Rattle.ep_inbox.specs.Order.{hand, items_of, of_port, Knows, InOrder}
+use Rattle.ep_host.specs.declared.hand.Hand.{Hand}
+use Rattle.ep_host.specs.Inboxes.{hand, items_of, of_port, Knows, InOrder}
 
 same : (n : ℕ) → eqb n n ≡ true
 same n = ⊎_elim (λ (t : _). t.0) (λ (t : _). absurd (t.1 refl)) (eqb_tells n n)

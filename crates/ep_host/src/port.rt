@@ -4,7 +4,7 @@ ghost use Rattle.std.specs.Arc.{arc_value};
 ghost use Rattle.crossbeam_queue.specs.Passes.{IsPassOf};
 
 use crate::hand::Hand;
-use crate::order::{Inbox, Puts, Takes};
+use crate::inbox::{Inbox, Puts, Takes};
 use crossbeam_queue::Pass;
 use std::alloc::{AllocError, Global};
 use std::sync::{Arc, Wait};
@@ -17,7 +17,7 @@ pub struct Port<T: Drop> {
     ghost tied: { IsPassOf (arc_value queue) pass },
 }
 
-// (by hand, so that no crate above proves again how the parts are dropped)
+// (by hand, so that nothing above proves again how the parts are dropped)
 impl<T: Drop> Drop for Port<T> {
     fn drop(self) {
         let Port { queue, pass } = self;
@@ -28,7 +28,7 @@ impl<T: Drop> Drop for Port<T> {
 
 impl<T: Drop> Port<T> {
     ghost use Rattle.std.specs.Prelude.{◌≡◌, ◌<◌, ◌∷◌, ◌++◌, [], IfOk, OnOk, IfErr, option_to_list};
-    ghost use Rattle.ep_inbox.specs.Ports.{put_by, taken_by, inbox_capacity, LeadTogether};
+    ghost use Rattle.ep_host.specs.Ports.{put_by, taken_by, inbox_capacity, LeadTogether};
 
     /// A port to a new inbox, for so many items.
     pub fn open(alloc: Global, capacity: usize) -> Result<Port<T>, AllocError>

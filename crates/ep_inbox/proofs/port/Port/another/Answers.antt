@@ -1,5 +1,0 @@
-use Rattle.ep_inbox.proofs.Ordered.{admits}
-use Rattle.ep_inbox.proofs.port.Port.another.Goals as goal
-
-pub pass-pass-requires : goal.pass-pass-requires
-pass-pass-requires g c = admits
