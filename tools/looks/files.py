@@ -15,7 +15,7 @@ PLACED = re.compile(
     r"|\.ci/rows/[\w.-]+/(?:args|stdin|stdout|stderr|status|change|redirect)(?:\.gz|\.hex)?|\.ci/rows/[\w.-]+/files/.*"
     r"|(?:examples|\.ci/scripts)/[\w.-]+\.(?:script|run)"
     r"|(?:.*/)?(?:README\.md|LICENSE|CHANGELOG\.md|CONTRIBUTING\.md|\.gitignore|pyproject\.toml|Cargo\.toml|Cargo\.lock|rustfmt\.toml)"
-    r"|clients/go/\w+\.go|wip/[\w.-]+\.(?:patch|py)|(?:.*/)?src/(?:.*/)?(?:main|lib)\.r[st]|(?:.*/)?(?:tests|examples|benches|bin)/\w+\.rs|(?:.*/)?build\.rs|tests/\w+/lib\.rt\.txt|.*/start\.data"
+    r"|clients/go/\w+\.go|wip/[\w.-]+\.(?:patch|py)|(?:.*/)?src/(?:.*/)?(?:main|lib)\.r[st]|(?:.*/)?(?:tests|examples|benches|bin)/\w+\.rs|(?:.*/)?build\.rs|(?:tests|examples)/\w+/lib\.rt\.txt|.*/start\.data"
 )
 # what stands beside a script
 BESIDE = re.compile(r"((?:examples|\.ci/scripts)/[\w.-]+)\.(?:report|trace|mmd|dot)(?:\.gz)?")

@@ -2,7 +2,7 @@
 //!
 //! This is the crate to build on: a program hands events to `Replica::take`, and what comes from outside to `Replica::handle`,
 //! keeps the new entry, and sends its frames.
-//! docs/EMBEDDING.md says how, and `ep_example` does it. `ep_world` holds replicas too.
+//! docs/EMBEDDING.md says how, and examples/three_replicas does it. `ep_world` holds replicas too.
 //!
 //! Start with `replica.rt`, then specs/Applied.antt (one event), specs/Receipts.antt (what callers are answered) and `clock.rt`. What a
 //! program asks beside is in `asking.rt`; where instances were first executed, in `first_executions.rt`.
