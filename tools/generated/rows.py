@@ -1,4 +1,4 @@
-"""Writes crates/ep_rows/specs: the rule book's definitions of states, steps, worlds, histories and journals, those of reads, and those of lives of nodes that
+"""Writes crates/ep_laws/specs/Rows: the rule book's definitions of states, steps, worlds, histories and journals, those of reads, and those of lives of nodes that
 crash, word for word, over maps that are plain lists, so that worked runs compute. Of the nodes' modules it leaves out what laws say of them.
 """
 
@@ -8,9 +8,9 @@ import re
 CRATES = f"{os.path.dirname(os.path.dirname(os.path.dirname(os.path.realpath(__file__))))}/crates"
 MODULES = {
     "ep_rules": ("InterferenceSet", "OneMap", "States", "Steps", "Worlds", "Operations", "Closing", "Generations", "Journals"),
-    "ep_looks": ("Reads", "LifeReads", "LifeOrder"),
+    "ep_laws": ("Reads", "LifeReads", "LifeOrder"),
     "ep_node": ("Crashes", "CrashLives"),
-    "ep_crash_looks": ("CrashReads", "CrashLifeReads"),
+    "ep_crash_laws": ("CrashReads", "CrashLifeReads"),
 }
 # what laws say of nodes: from a line to one, which are left out too, or to the end
 LAWS = (
@@ -37,9 +37,9 @@ def files():
         with open(f"{CRATES}/{crate}/specs/{name}.antt", encoding="utf-8") as file:
             text = file.read()
         text = re.sub(r"(?m)^unfoldable pub", "abbrev pub", text)
-        text = text.replace("Rattle.std.specs.FinMap as map", "Rattle.ep_rows.specs.KeyMaps as map")
-        text = re.sub(rf"Rattle\.ep_(?:rules|looks|node|crash_looks)\.specs\.({moved})\.", r"Rattle.ep_rows.specs.\1.", text)
+        text = text.replace("Rattle.std.specs.FinMap as map", "Rattle.ep_laws.specs.Rows.KeyMaps as map")
+        text = re.sub(rf"Rattle\.ep_(?:rules|laws|node|crash_laws)\.specs\.({moved})\.", r"Rattle.ep_laws.specs.Rows.\1.", text)
         if crate == "ep_node":
             text = without_laws(text)
         head = f"-- tools/generate writes this file, from crates/{crate}/specs/{name}.antt.\n"
-        yield f"{CRATES}/ep_rows/specs/{name}.antt", (head + text).encode()
+        yield f"{CRATES}/ep_laws/specs/Rows/{name}.antt", (head + text).encode()

@@ -4,5 +4,3 @@ pub mod Finding
 pub mod Listing
 pub mod Cutting
 pub mod Owing
-pub mod Enough
-pub mod Coming

@@ -3,7 +3,7 @@ use Rattle.std.proofs.Common.{◌≡◌, ℕ, suc, ◌+◌, List, ◌++◌, code
 use Rattle.ep_base.specs.Instances.{leader_of}
 use Rattle.ep_report.specs.Parts.{instance_text}
 use Rattle.ep_ending.specs.Lines.{between_text, names_text, open_line}
-use Rattle.ep_ending.specs.Named.{name}
+use Rattle.ep_laws.specs.Named.{name}
 
 pub one_name :
     (f leader n m : ℕ) (old mid new : List ℕ) → m ≡ suc n → mid ≡ old ++ names_text f leader n → new ≡ mid ++ (between_text f n ++ decimal (name leader n)) →

@@ -1,4 +1,2 @@
-pub mod Named
-pub mod Crashed
 pub mod Lines
 pub mod Endings

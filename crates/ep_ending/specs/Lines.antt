@@ -2,7 +2,7 @@
 use Rattle.std.specs.Prelude.{ℕ, zero, suc, ◌+◌, cond, eqb, List, [], ◌∷◌, ◌++◌, Option, Some, None, codes, decimal}
 use Rattle.ep_base.specs.Instances.{leader_of}
 use Rattle.ep_report.specs.Parts.{instance_text}
-use Rattle.ep_ending.specs.Named.{name}
+use Rattle.ep_laws.specs.Named.{name}
 
 -- what stands before the replica at this place of f+1
 abbrev pub between_text : ℕ → ℕ → List ℕ

@@ -2,7 +2,7 @@
 
 ghost use Rattle.std.specs.Prelude.{◌≡◌, ◌≤◌, ◌<◌, ◌+◌, ◌++◌, OnOk, decimal};
 ghost use Rattle.ep_ending.specs.Lines.{between_text, names_text};
-ghost use Rattle.ep_ending.specs.Named.{name};
+ghost use Rattle.ep_laws.specs.Named.{name};
 
 use ep_base::{ReplicaId, Size};
 use ep_report::{Part, push_parts};

@@ -8,7 +8,7 @@ ghost use Rattle.ep_patience.specs.AtLast.{AsksAtLast};
 ///
 /// What it asks for is enough: a recovery at one replica of a majority that can talk among itself ends the instance, if
 /// nobody else of it has promised as much, and what they send each other is handled before another is begun
-/// (`round_ends` of `ep_progress`).
+/// (`round_ends` of `ep_laws`).
 pub fn asks_at_last()
     ensures { AsksAtLast }
 {}

@@ -15,7 +15,7 @@ use Rattle.ep_phase.specs.Progress.{progress_in}
 use Rattle.ep_phase.specs.declared.progress.LeadPhase.{LeadPhase}
 use Rattle.ep_phase.specs.declared.progress.LeadPhase.TheVariants as phase
 use Rattle.ep_replica.specs.Kept.{Kept}
-use Rattle.ep_looks.specs.Reads.{found}
+use Rattle.ep_laws.specs.Reads.{found}
 use Rattle.ep_replica.specs.Pending.{state_of}
 use Rattle.ep_replica.specs.Reading.{IsReading}
 use Rattle.ep_replica.specs.declared.reading.Reading.{Reading}

@@ -1,0 +1,5 @@
+use Rattle.ep_crash_laws.proofs.CrashLifeReading.{crash_life_reads_keep_real_time_lem}
+use Rattle.ep_crash_laws.proofs.reads.crash_life_reads_keep_real_time.Goals as goal
+
+pub returns : goal.returns
+returns c = crash_life_reads_keep_real_time_lem

@@ -1,0 +1,5 @@
+use Rattle.ep_crash_laws.proofs.CrashLifeReading.{crash_life_whole_reads_are_linearizable_lem}
+use Rattle.ep_crash_laws.proofs.reads.crash_life_whole_reads_are_linearizable.Goals as goal
+
+pub returns : goal.returns
+returns c = crash_life_whole_reads_are_linearizable_lem

@@ -1,0 +1,4 @@
+pub mod CrashReads
+pub mod CrashLifeReads
+pub mod AskedReads
+pub mod CrashProgress

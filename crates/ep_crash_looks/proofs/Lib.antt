@@ -1,6 +1,0 @@
-pub mod Standing
-pub mod CrashReading
-pub mod GoingOn
-pub mod LifeStanding
-pub mod CrashLifeReading
-pub mod Asking

@@ -1,5 +1,0 @@
-use Rattle.ep_crash_looks.proofs.Asking.{asked_reads_are_linearizable_lem}
-use Rattle.ep_crash_looks.proofs.laws.asked_reads_are_linearizable.Goals as goal
-
-pub returns : goal.returns
-returns c = asked_reads_are_linearizable_lem

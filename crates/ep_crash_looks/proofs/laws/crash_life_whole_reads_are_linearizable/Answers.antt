@@ -1,5 +1,0 @@
-use Rattle.ep_crash_looks.proofs.CrashLifeReading.{crash_life_whole_reads_are_linearizable_lem}
-use Rattle.ep_crash_looks.proofs.laws.crash_life_whole_reads_are_linearizable.Goals as goal
-
-pub returns : goal.returns
-returns c = crash_life_whole_reads_are_linearizable_lem

@@ -1,3 +1,0 @@
-pub mod CrashReads
-pub mod CrashLifeReads
-pub mod AskedReads

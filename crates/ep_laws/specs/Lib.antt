@@ -1,0 +1,17 @@
+pub mod Reads
+pub mod RealTime
+pub mod MachineReads
+pub mod WholeReads
+pub mod LifeReads
+pub mod WithReads
+pub mod LifeOrder
+pub mod AheadReads
+pub mod Alone
+pub mod Quiet
+pub mod Executing
+pub mod InTurn
+pub mod Known
+pub mod Finishing
+pub mod Serving
+pub mod Named
+pub mod Rows

@@ -1,0 +1,19 @@
+-- The definitions of runs once more, over maps that are plain lists: tools/generate writes all but Maps and KeyMaps.
+pub mod Maps
+pub mod KeyMaps
+pub mod OneMap
+pub mod InterferenceSet
+pub mod States
+pub mod Steps
+pub mod Worlds
+pub mod Operations
+pub mod Closing
+pub mod Generations
+pub mod Reads
+pub mod Journals
+pub mod LifeReads
+pub mod LifeOrder
+pub mod Crashes
+pub mod CrashLives
+pub mod CrashReads
+pub mod CrashLifeReads

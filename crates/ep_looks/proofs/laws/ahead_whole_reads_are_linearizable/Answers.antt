@@ -1,5 +1,0 @@
-use Rattle.ep_looks.proofs.WholeReading.{ahead_whole_reads_are_linearizable_lem}
-use Rattle.ep_looks.proofs.laws.ahead_whole_reads_are_linearizable.Goals as goal
-
-pub returns : goal.returns
-returns c = ahead_whole_reads_are_linearizable_lem

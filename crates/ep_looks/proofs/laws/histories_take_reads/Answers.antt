@@ -1,5 +1,0 @@
-use Rattle.ep_looks.proofs.Taking.{histories_take_reads_lem}
-use Rattle.ep_looks.proofs.laws.histories_take_reads.Goals as goal
-
-pub returns : goal.returns
-returns c = histories_take_reads_lem

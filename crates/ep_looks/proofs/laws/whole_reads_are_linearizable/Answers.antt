@@ -1,5 +1,0 @@
-use Rattle.ep_looks.proofs.WholeReading.{whole_reads_are_linearizable_lem}
-use Rattle.ep_looks.proofs.laws.whole_reads_are_linearizable.Goals as goal
-
-pub returns : goal.returns
-returns c = whole_reads_are_linearizable_lem

@@ -1,5 +1,0 @@
-use Rattle.ep_progress.proofs.Answering.{room_at_first_lem}
-use Rattle.ep_progress.proofs.laws.room_at_first.Goals as goal
-
-pub returns : goal.returns
-returns c = room_at_first_lem
