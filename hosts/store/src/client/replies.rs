@@ -27,7 +27,7 @@ const LIKELY: usize = 64 << 10;
 const PARTS: usize = 16;
 /// A longer reply may be a long one.
 const SHORT: usize = 1 << 10;
-/// A client that takes nothing for so long is gone; one whose replies take half of what a connection may have, sooner.
+/// A client that takes nothing for so long is gone; one whose replies take half as much as one may have, sooner.
 const WRITE_PATIENCE: Duration = Duration::from_secs(30);
 const SHORT_PATIENCE: Duration = Duration::from_secs(5);
 /// After so long it is looked again for a reply that is on its way as its time is over.
@@ -401,7 +401,7 @@ impl Replies {
     }
 
     fn lost_from(&self) -> Option<Instant> {
-        let patience = if 2 * self.bytes > self.most { SHORT_PATIENCE } else { WRITE_PATIENCE };
+        let patience = if 2 * self.bytes > self.most.min(BURST) { SHORT_PATIENCE } else { WRITE_PATIENCE };
         self.stuck.map(|since| since + patience)
     }
 
