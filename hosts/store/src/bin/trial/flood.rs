@@ -35,7 +35,7 @@ const LENGTH: usize = 100;
 /// Longer than a store's patience.
 const PATIENCE: Duration = Duration::from_secs(60);
 /// Processor time of a command: at most so many times the least of all levels.
-const MOST_TIMES: f64 = 3.0;
+const MOST_TIMES: f64 = 6.0;
 /// For so long one client of each store sends one command at a time, without others.
 const ALONE: Duration = Duration::from_secs(2);
 
