@@ -1,5 +1,6 @@
 """Writes README's pictures: docs/architecture.svg, what a cluster is made of, and docs/etcd.svg, how fast it is beside
-etcd, by the figures in docs/QUESTIONS.md and hosts/store/REGIONS.md."""
+etcd, by the figures in docs/QUESTIONS.md and hosts/store/REGIONS.md; and docs/floods.svg, how fast it is by commands in
+flight and how long others wait meanwhile, by those in docs/COSTS.md."""
 
 import re
 
@@ -17,6 +18,7 @@ ENDS = (
     '<path d="M0 0L8 4L0 8z" style="fill:#456"/></marker></defs>'
 )
 REGIONS = ("California", "Virginia", "Ireland")
+BESIDE = ("1 a store, alone", "60 send 50", "4 send 1,000", "32, alone", "8 never read", "64 never read")
 
 
 def read(name):
@@ -104,6 +106,31 @@ def etcd():
     return picture(720, 220, parts)
 
 
+def bars(left, title, rows):
+    """A bar for each row."""
+    yield text(left + 10, 24, title, "head left")
+    most = max(number for _, number in rows)
+    for at, (name, number) in enumerate(rows):
+        wide, y = round(170 * number / most), 42 + 22 * at
+        yield text(left + 10, y + 11, name, "left small") + box(left + 110, y, wide, 14, "ours")
+        yield text(left + 115 + wide, y + 11, f"{number:,}", "left small")
+
+
+def cells(name):
+    """The numbers in a row of COSTS that has this name."""
+    (row,) = found(rf"^\| {name} \|(.*)\|$", "docs/COSTS.md")
+    return [float(it.strip().replace(",", "")) for it in row.split("|")]
+
+
+def floods():
+    """Two plots, side by side."""
+    head = [f"{round(it):,} in flight" for it in cells("In flight")]
+    parts = [*bars(0, "Commands a second", [*zip(head, map(round, cells("done a second")))])]
+    parts += bars(360, "99 of 100 wait at most so long, ms", [*zip(BESIDE, cells("p99, ms"))])
+    return picture(720, 52 + 22 * len(head), parts)
+
+
 def files():
     yield f"{TOP}/docs/architecture.svg", architecture()
     yield f"{TOP}/docs/etcd.svg", etcd()
+    yield f"{TOP}/docs/floods.svg", floods()
