@@ -18,8 +18,9 @@ const LEVELS: [(usize, usize); 9] =
     [(1, 1), (3, 3), (6, 16), (6, 50), (15, 50), (30, 50), (60, 50), (20, 500), (2_000, 1)];
 /// Those with less in flight aren't judged: a client that waits for each reply can't be as fast.
 const LEAST_JUDGED: usize = 300;
-/// Each client sends at least so many times, and no more than so many.
-const ROUNDS: (usize, usize) = (10, 2_000);
+/// Each client sends at least so many times, and no more than for one part in so many of a level's commands.
+const LEAST_ROUNDS: usize = 10;
+const PARTS: usize = 60;
 /// Those beside whom some clients send one at a time, and how many times as many commands they send as at a level.
 const TIMES: usize = 5;
 const BESIDE: [(usize, usize); 2] = [(60, 50), (4, 1_000)];
@@ -80,7 +81,7 @@ pub fn run(cluster: &Cluster, options: &Options) -> Result<Vec<String>, String> 
         if told.doubtful > 0 {
             faults.push(format!("{} commands may still be done", told.doubtful));
         }
-        if recovered > (told.done / 1_000) as u64 {
+        if clients * at_once >= LEAST_JUDGED && recovered > (told.done / 1_000) as u64 {
             faults.push(format!("{recovered} recoveries were begun of replicas that were only busy"));
         }
     }
@@ -110,7 +111,7 @@ pub fn run(cluster: &Cluster, options: &Options) -> Result<Vec<String>, String> 
 fn flood(cluster: &Cluster, (clients, at_once): (usize, usize), commands: usize) -> Told {
     let mut all = Told::default();
     thread::scope(|scope| {
-        let rounds = commands.div_ceil(clients * at_once).clamp(ROUNDS.0, ROUNDS.1);
+        let rounds = commands.div_ceil(clients * at_once).min(commands / PARTS).max(LEAST_ROUNDS);
         let client = |place: usize| {
             let port = cluster.client_ports[place % cluster.replicas];
             scope.spawn(move || send(port, place as u64, at_once, rounds))
