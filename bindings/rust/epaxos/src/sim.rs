@@ -44,6 +44,7 @@ mod plan;
 mod queue;
 mod registers;
 mod seen;
+mod watched;
 mod workload;
 mod world;
 

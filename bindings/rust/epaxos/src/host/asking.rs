@@ -149,7 +149,10 @@ impl Host {
     }
 
     /// Behind a place where changes are lacking none is reported in the same turn.
-    pub(super) fn report_changes(&mut self, changes: Vec<KeyChange>, lacks_more: bool) {
+    pub(super) fn report_changes(&mut self, mut changes: Vec<KeyChange>, lacks_more: bool) {
+        if self.settings.has(Plant::LosesChange) && changes.len() > 1 {
+            changes.pop();
+        }
         if !self.out.lacks_changes {
             self.out.changes.extend(changes);
             self.out.lacks_changes = lacks_more;

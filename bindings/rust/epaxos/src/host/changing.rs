@@ -232,6 +232,7 @@ impl Host {
                 _ if self.settings.has(Plant::TakenTwice) => None,
                 Fate::Undone => None,
                 Fate::Unseen => Some(Told::DoneUnseen),
+                Fate::Doubtful if self.settings.has(Plant::DeniesDoubtful) => Some(Told::Refused(Refusal::Late)),
                 Fate::Doubtful => Some(Told::Doubtful),
             };
             match outcome {

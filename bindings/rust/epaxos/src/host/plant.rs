@@ -83,6 +83,10 @@ pub enum Plant {
     GivesUpProposed,
     /// A host ends before what is under way was answered.
     EndsEarly,
+    /// Of what may have been done it is told that it wasn't.
+    DeniesDoubtful,
+    /// The last change of several isn't told to those who watch.
+    LosesChange,
 }
 
 impl Plant {
@@ -93,7 +97,7 @@ impl Plant {
     ///
     /// assert!(Plant::ALL.iter().all(|plant| Plant::read(&plant.to_string()) == Some(*plant)));
     /// ```
-    pub const ALL: [Plant; 36] = [
+    pub const ALL: [Plant; 38] = [
         Plant::EarlyAnswer,
         Plant::BeforeSync,
         Plant::Forgetful,
@@ -130,6 +134,8 @@ impl Plant {
         Plant::StaleMachine,
         Plant::GivesUpProposed,
         Plant::EndsEarly,
+        Plant::DeniesDoubtful,
+        Plant::LosesChange,
     ];
 
     /// That of this name, as `Display` spells it.

@@ -15,6 +15,8 @@ pub enum Failure {
     NotLinearizable(String),
     /// Somebody was answered twice.
     ToldTwice(u64),
+    /// Who follows the changes that a host reports has another value of this key than its map.
+    Watched(u8, String),
     /// Two replicas have executed different commands in one instance, or with other answers, or those of a key in
     /// another order.
     Apart(String),
@@ -52,6 +54,7 @@ impl fmt::Display for Failure {
         match self {
             Failure::NotLinearizable(key) => write!(f, "what clients of {key} were told isn't linearizable"),
             Failure::ToldTwice(token) => write!(f, "who asked as {token} was told twice"),
+            Failure::Watched(machine, key) => write!(f, "who watches machine {machine} has another value of {key}"),
             Failure::Apart(what) => write!(f, "replicas don't agree: {what}"),
             Failure::DoneTwice(what) => write!(f, "done twice: {what}"),
             Failure::Ended(machine, why) => write!(f, "the host of machine {machine} has ended: {why}"),

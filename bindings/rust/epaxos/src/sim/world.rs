@@ -13,6 +13,7 @@ use super::plan::{Age, Plan, Trouble, What, mixed};
 use super::queue::Queue;
 use super::registers::Registers;
 use super::seen::Seen;
+use super::watched::Watched;
 use crate::host::{
     FolderFault, Host, HostFault, Name, Plant, Refusal, Reply, Settings, Span, Start, StartFault, Told, Turn, Work,
 };
@@ -110,6 +111,8 @@ pub(super) struct Machine {
     whole: Option<u64>,
     /// The newest generation when it was last compared, and when that was.
     goal: (u64, u32),
+    /// Who watches all keys at this start.
+    watched: Watched,
 }
 
 struct Client {
@@ -168,6 +171,7 @@ impl<'a> World<'a> {
             able: None,
             whole: None,
             goal: (0, 0),
+            watched: Watched::default(),
         });
         let machines = machines.collect();
         let client = |number: u32| Client {
@@ -724,10 +728,13 @@ impl<'a> World<'a> {
         // (receipts are of the generation before the turn, if it changes)
         let generation = host.generation();
         let before = host.status_together();
-        let Turn { frames, writes, replies, work, executed, receipts, .. } = match host.turn(now) {
-            Ok(turn) => turn,
-            Err(fault) => return self.end(machine, fault),
-        };
+        let Turn { frames, writes, replies, work, executed, receipts, changes, lacks_changes, .. } =
+            match host.turn(now) {
+                Ok(turn) => turn,
+                Err(fault) => return self.end(machine, fault),
+            };
+        it.watched.follow(changes, lacks_changes);
+        it.watched.compare(|| host.contents()).map_err(|key| Failure::Watched(machine, key))?;
         let together = host.status_together() - before;
         let due = host.due();
         let (recoveries, is_ended) = (host.status_recoveries(), host.is_ended());
@@ -1049,6 +1056,8 @@ impl<'a> World<'a> {
             }
             Err(fault) => return Err(Failure::Ended(machine, format!("it doesn't start: {fault}"))),
         };
+        host.set_tells_changes(true);
+        self.machine(machine).watched = Watched::default();
         self.seen.starts += 1;
         let peers: Vec<u8> =
             (0..self.count()).filter(|peer| *peer != machine && !self.is_cut(machine, *peer)).collect();
