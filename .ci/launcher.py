@@ -29,8 +29,8 @@ SCRIPT = "replicas 3\npropose 0 1 put x 1\nflush\nflush\nexecute 0 0.1\n"
 REPORT = "verdict accepted\ncommitted 1\n0.1 seq 1 deps - put x 1\nhistory 1\n1 0.1 put x 1 -> absent\nreceipts 1\nclient 1 request 1 0.1 absent\nrefused 0\n"
 FOUR = "replicas 4\n"
 CUT = b"EPJB\2\3"
-# a bundle in which replica 1 handled a frame that nobody sent: .ci/rows/audit-unsent-frame
-UNSENT = f"{TOP}/.ci/rows/audit-unsent-frame/stdin.hex"
+# a bundle in which replica 1 handled a frame that nobody sent
+UNSENT = rows.row_of("audit-unsent-frame").given
 COMMANDS = rows.commands()
 # those that commands.txt lists, also of tools
 with open(f"{TOP}/commands.txt", encoding="utf-8") as file:
@@ -64,11 +64,9 @@ class Room:
                     shutil.copytree(f"{TOP}/crates/{name}/{part}", f"{top}/crates/{name}/{part}")
         os.makedirs(f"{top}/crates/ep_base/proofs")
         shutil.copy2(f"{TOP}/crates/ep_base/proofs/Lib.antt", f"{top}/crates/ep_base/proofs")
-        for name, held in (("put.script", SCRIPT.encode()), ("four.script", FOUR.encode()), ("cut.bundle", CUT), ("no.run", SCRIPT.encode())):
+        for name, held in (("put.script", SCRIPT.encode()), ("four.script", FOUR.encode()), ("cut.bundle", CUT), ("unsent.bundle", UNSENT), ("no.run", SCRIPT.encode())):
             with open(f"{top}/{name}", "wb") as file:
                 file.write(held)
-        with open(UNSENT, encoding="utf-8") as file, open(f"{top}/unsent.bundle", "wb") as bundle:
-            bundle.write(bytes.fromhex("".join(line.partition("#")[0] for line in file)))
 
     def place(self, *kinds):
         """Has the programs stand where proved or unproved ones do, and nowhere else."""

@@ -1,16 +1,22 @@
 #!/usr/bin/env python3
 """Runs of the built program: words and input against the output, the fault output and the status that are wanted.
 
-  .ci/rows.py PROGRAM [WORD]     the rows whose names have the word, of that program
+  .ci/rows.py PROGRAM [WORD]              the rows whose names have the word, of that program
+  .ci/rows.py --rewrite PROGRAM [NAME..]  writes what the program gives into .ci/rows/NAME.row, or into all, in the place
+                                          of what was wanted, and names those that changed. What is wanted stands there
+                                          since a reader has found it otherwise: so each is read before it is committed
 
-A row is a folder .ci/rows/NAME with files, each of which may lack:
-  args       one word a line. Behind a line '|' stand the words of a second run, which reads what the first one wrote
-  stdin      the input; stdin.gz: packed; stdin.hex: in hexadecimal, a line from '#' on is a comment
+A row is a file .ci/rows/NAME.row. Each of its blocks begins with a line `-- NAME --`, and may lack:
+  words      as in a shell: the words of the run; behind '|' those of a second run, which reads what the first one wrote;
+             redirections of the last run
   change     lines 'PLACE BYTE', in decimal and hexadecimal: bytes that are others where the second run reads them
-  redirect   the shell's redirections of the last run
-  files      a folder: files that lie where the runs are; NAME.hex is NAME, in hexadecimal
-  stdout stderr status     what is wanted: nothing, nothing and 0 where there is no such file; stdout.gz: packed
-PROGRAM is ep_main as it was built; what begins with a command of another program (commands.txt) is run by that, which was built as it was. Runs of `epaxos node`, and of `collect` on its logs, are in .ci/nodes.py.
+  files/F    a file F that lies where the runs are
+  input
+  output errors status     what is wanted: nothing, nothing and 0 where there is no such block
+A block `-- NAME.hex --` is in hexadecimal; a line of it from '#' on is a comment.
+
+PROGRAM is ep_main as it was built; what begins with a command of another program (commands.txt) is run by that, which
+was built as it was. Runs of `epaxos node`, and of `collect` on its logs, are in .ci/nodes.py.
 More rows are made of the scripts and reports in examples/ and .ci/scripts/ (NAME.script is played, NAME.run is run
 by both hosts, and where there is a NAME.trace, a NAME.mmd or a NAME.dot, NAME.script is traced
 or drawn), and by .ci/made.py, .ci/words.py, .ci/cases.py, .ci/odd.py, .ci/faults.py, .ci/generations.py, .ci/collected.py
@@ -34,7 +40,7 @@ SECONDS = 600
 
 
 def program_of(program, words):
-    """The program that is run with these words, as ep_main was built: that of the command; ep_main where there is none."""
+    """The program that is run with these words, as ep_main was built: that of the command, or else ep_main."""
     return program.replace("ep_main", commands().get(words[0], "ep_main") if words else "ep_main")
 
 
@@ -74,28 +80,32 @@ class Row:
     # what printed lines have to have in them too
     says: list = field(default_factory=list)
 
-    def run(self, program):
-        """Returns what is wrong with a run of the program, or nothing."""
+    def ran(self, program):
+        """The last run's status, output and fault output, in a folder with the row's files, or else in the caller's."""
         if not self.files:
-            return self.run_in(None, program)
+            return self.ran_in(None, program)
         with tempfile.TemporaryDirectory() as folder:
             for name, held in self.files.items():
                 os.makedirs(os.path.dirname(f"{folder}/{name}"), exist_ok=True)
                 with open(f"{folder}/{name}", "wb") as it:
                     it.write(held)
-            return self.run_in(folder, program)
+            return self.ran_in(folder, program)
 
-    def run_in(self, folder, program):
-        """The same in this folder; in the caller's where there is none."""
+    def ran_in(self, folder, program):
+        """The same in this folder. There is no status where an earlier run didn't end well."""
         given, runs = self.given, runs_of(self.words)
         for words in runs[:-1]:
-            first = self.one(program, words, given, "", folder)
-            if first[0] or first[2]:
-                return f"the first run ended with status {first[0]}: {first[2][:200]!r}"
-            given = bytearray(first[1])
+            status, wrote, told = self.one(program, words, given, "", folder)
+            if status or told:
+                return None, b"", b"the first run ended with status %s: %s" % (str(status).encode(), told)
+            given = bytearray(wrote)
         for place, byte in self.change:
             given[place] = byte
-        status, wrote, told = self.one(program, runs[-1], bytes(given), self.redirect, folder)
+        return self.one(program, runs[-1], bytes(given), self.redirect, folder)
+
+    def run(self, program):
+        """Returns what is wrong with a run of the program, or nothing."""
+        status, wrote, told = self.ran(program)
         if status != self.status:
             return f"status {status} and not {self.status}; on standard error {told[:200]!r}"
         is_told = told == self.told if self.rest is None else told.startswith(self.told) and told.endswith(self.rest)
@@ -123,52 +133,100 @@ class Row:
         script = 'program=$1; shift; exec -a epaxos "$program" "$@" ' + redirect
         words = ["bash", "-c", script, "", os.path.abspath(program_of(program, words)), *[it for it in words if it]]
         try:
-            ran = subprocess.run(words, input=given, stdout=subprocess.PIPE, stderr=subprocess.PIPE, timeout=SECONDS, cwd=folder)
+            ran = subprocess.run(words, input=given, capture_output=True, timeout=SECONDS, cwd=folder)
         except subprocess.TimeoutExpired:
             return None, b"", b"it had not ended after %d seconds" % SECONDS
         return ran.returncode, ran.stdout, ran.stderr
 
 
 def text(folder, name):
-    """The bytes of a row's file, or nothing."""
+    """The bytes of a file, which may be packed, or nothing."""
     path = f"{folder}/{name}"
     if os.path.isfile(f"{path}.gz"):
         with gzip.open(f"{path}.gz") as it:
             return it.read()
-    if os.path.isfile(f"{path}.hex"):
-        with open(f"{path}.hex") as it:
-            return bytes.fromhex("".join(line.partition("#")[0] for line in it))
     if not os.path.isfile(path):
         return b""
     with open(path, "rb") as it:
         return it.read()
 
 
-def laid(folder):
-    """The files that lie where a row's runs are."""
-    if not os.path.isdir(folder):
-        return {}
-    names = sorted({it.removesuffix(".hex") for it in os.listdir(folder)})
-    return {name: text(folder, name) for name in names}
+BLOCK = re.compile(r"words|change|status|(?:files/\S+?|input|output|errors)(?:\.hex)?")
+PLAIN = rb"(?:(?!-- )[ -~]*\n)*"
+
+
+def file_of(name):
+    """The path of a row's file."""
+    return f"{TOP}/.ci/rows/{name}.row"
+
+
+def blocks_of(name):
+    """The blocks of a row's file, as they stand there, by their names."""
+    with open(file_of(name), encoding="utf-8", newline="") as it:
+        text = it.read()
+    before, *parts = re.split(r"(?m)^-- (.*) --\n", text)
+    called = [it.removesuffix(".hex") for it in parts[::2]]
+    odd = [it for it in parts[::2] if not BLOCK.fullmatch(it) or called.count(it.removesuffix(".hex")) > 1]
+    if before or odd or not text.endswith("\n"):
+        why = f"no block is called so, or two are: {odd[0]}" if odd else "a line is in no block, or has no end"
+        raise ValueError(f"row {name}: {why}")
+    return dict(zip(parts[::2], parts[1::2]))
+
+
+def held(blocks, name):
+    """The bytes of a block, or nothing where there is none."""
+    if f"{name}.hex" in blocks:
+        return bytes.fromhex("".join(line.partition("#")[0] for line in blocks[f"{name}.hex"].splitlines()))
+    return blocks.get(name, "").encode()
+
+
+def row_of(name):
+    """The row of a file."""
+    blocks = blocks_of(name)
+    words, *redirect = re.split(r"\s(?=\d?[<>])", blocks.get("words", "").strip(), maxsplit=1)
+    change = [line.split() for line in blocks.get("change", "").splitlines()]
+    files = [it.removesuffix(".hex") for it in blocks if it.startswith("files/")]
+    return Row(
+        name,
+        words.split(),
+        held(blocks, "input"),
+        held(blocks, "output"),
+        held(blocks, "errors"),
+        int(blocks.get("status", 0)),
+        "".join(redirect),
+        [(int(place), int(byte, 16)) for place, byte in change],
+        {it.removeprefix("files/"): held(blocks, it) for it in files},
+    )
+
+
+def names():
+    """The names of the rows in .ci/rows."""
+    return sorted(it.removesuffix(".row") for it in os.listdir(f"{TOP}/.ci/rows"))
 
 
 def stored():
     """The rows of .ci/rows."""
-    for name in sorted(os.listdir(f"{TOP}/.ci/rows")):
-        folder = f"{TOP}/.ci/rows/{name}"
-        words = text(folder, "args").decode().splitlines()
-        change = [line.split() for line in text(folder, "change").decode().splitlines()]
-        yield Row(
-            name,
-            words,
-            text(folder, "stdin"),
-            text(folder, "stdout"),
-            text(folder, "stderr"),
-            int(text(folder, "status") or 0),
-            text(folder, "redirect").decode().strip(),
-            [(int(place), int(byte, 16)) for place, byte in change],
-            laid(f"{folder}/files"),
-        )
+    return map(row_of, names())
+
+
+def rewrite(program, name):
+    """Writes what the program gives into a row's file, in the place of what was wanted where that was another."""
+    blocks, (status, wrote, told) = blocks_of(name), row_of(name).ran(program)
+    if status is None:
+        raise ValueError(f"row {name}: {told.decode(errors='replace')}")
+    before = {**blocks}
+    for block, gives in (("output", wrote), ("errors", told), ("status", b"%d\n" % status if status else b"")):
+        was = {it: blocks.pop(it) for it in (block, f"{block}.hex") if it in blocks}
+        if gives and held(was, block) == gives:
+            blocks.update(was)
+        elif re.fullmatch(PLAIN, gives):
+            blocks.update({block: gives.decode()} if gives else {})
+        else:
+            blocks[f"{block}.hex"] = "".join(f"{gives[at : at + 32].hex(' ', -4)}\n" for at in range(0, len(gives), 32))
+    if blocks != before:
+        print(f"{file_of(name)} is another", flush=True)
+        with open(file_of(name), "w", encoding="utf-8", newline="") as it:
+            it.writelines(f"-- {block} --\n{text}" for block, text in blocks.items())
 
 
 def played(name, script, report):
@@ -281,6 +339,10 @@ def tried(program, word="", by=""):
 def main(words):
     if words in (["--help"], ["-h"]):
         print(__doc__, end="")
+        return 0
+    if words[:1] == ["--rewrite"] and os.path.isfile("".join(words[1:2])) and {*words[2:]} <= {*names()}:
+        for name in words[2:] or names():
+            rewrite(os.path.abspath(words[1]), name)
         return 0
     if not 1 <= len(words) <= 2 or not os.path.isfile(words[0]):
         print(__doc__, end="", file=sys.stderr)

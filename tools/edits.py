@@ -1,6 +1,11 @@
-"""Wrong bodies as files, crates/NAME/wrong/*.edit: what an edit changes, and what the check of it stands on."""
+"""Wrong bodies, the blocks of crates/NAME/wrong.edits: what an edit changes, and what the check of it stands on.
+
+A block begins with a line `-- NAME --`. Behind it stand a line that says whose promise the edit turns, and the lines
+`file:`, `old:` and `new:`.
+"""
 
 import functools
+import glob
 import hashlib
 import os
 import re
@@ -16,19 +21,17 @@ def read(path):
         return it.read()
 
 
-def pairs_of(path):
+def pairs_of(text):
     """The edit's pairs, in order: a file of the crate, the text that stands there, and the one in its place."""
     file, old, found = "", None, []
-    with open(path, encoding="utf-8", errors="replace") as lines:
-        for line in lines:
-            line = line.rstrip("\n")
-            if line.startswith("file: "):
-                file = line[len("file: ") :].strip()
-            elif line.startswith("old: "):
-                old = line[len("old: ") :]
-            elif line.startswith("new:") and old:
-                found.append((file, old, line[len("new:") :].removeprefix(" ")))
-                old = None
+    for line in text.split("\n"):
+        if line.startswith("file: "):
+            file = line[len("file: ") :].strip()
+        elif line.startswith("old: "):
+            old = line[len("old: ") :]
+        elif line.startswith("new:") and old:
+            found.append((file, old, line[len("new:") :].removeprefix(" ")))
+            old = None
     return found
 
 
@@ -106,16 +109,13 @@ class Edit:
     """A wrong body: the functions that it changes, or none where it changes something else than bodies."""
 
     crate: object
-    folder: str
     name: str
+    text: str
     pairs: list = field(default_factory=list)
     functions: list = field(default_factory=list)
 
     def label(self):
         return f"{self.crate.name}/{self.name}"
-
-    def path(self):
-        return f"{self.crate.folder}/{self.folder}/{self.name}.edit"
 
     def apply(self, texts):
         """The files' texts with the edit in them, or None where a text stands there not just once; notes the functions that it changes."""
@@ -135,17 +135,28 @@ class Edit:
         return made
 
 
-def edit(crate, folder, name):
-    made = Edit(crate, folder, name)
-    made.pairs = pairs_of(made.path())
+def edit(crate, name, text):
+    made = Edit(crate, name, text.rstrip("\n"), pairs_of(text))
     made.apply({})
     return made
 
 
-def names_in(crate, folder):
-    """The names of the crate's edits in must-fail/ or wrong/."""
-    path = f"{crate.folder}/{folder}"
-    return sorted(it.removesuffix(".edit") for it in os.listdir(path) if it.endswith(".edit")) if os.path.isdir(path) else []
+def blocks_of(crate):
+    """What stands before the blocks of the crate's wrong.edits, which is to be nothing, and these, each a name and a text."""
+    path = f"{crate.folder}/wrong.edits"
+    before, *parts = re.split(r"(?m)^-- (\S+) --\n", read(path)) if os.path.isfile(path) else [""]
+    return before, [*zip(parts[::2], parts[1::2])]
+
+
+def edits_of(crate):
+    """The edits of the crate's wrong.edits."""
+    return [edit(crate, *it) for it in blocks_of(crate)[1]]
+
+
+def edits_below(crate, folder):
+    """The crate's edits that are files of this folder, as rt reads them in must-fail/."""
+    paths = sorted(glob.glob(f"{crate.folder}/{folder}/*.edit"))
+    return [edit(crate, os.path.basename(it).removesuffix(".edit"), read(it)) for it in paths]
 
 
 def sum_of(what):

@@ -11,9 +11,8 @@ import re
 
 # what is read for where it stands
 PLACED = re.compile(
-    r"crates/\w+/(?:specs|proofs)/.*\.antt|tests/\w+/proofs/.*|crates/\w+/(?:wrong|must-fail)/[\w.-]+\.edit"
-    r"|\.ci/rows/[\w.-]+/(?:args|stdin|stdout|stderr|status|change|redirect)(?:\.gz|\.hex)?|\.ci/rows/[\w.-]+/files/.*"
-    r"|(?:examples|\.ci/scripts)/[\w.-]+\.(?:script|run)"
+    r"crates/\w+/(?:specs|proofs)/.*\.antt|tests/\w+/proofs/.*|crates/\w+/(?:wrong\.edits|must-fail/[\w.-]+\.edit)"
+    r"|\.ci/rows/[\w.-]+\.row|(?:examples|\.ci/scripts)/[\w.-]+\.(?:script|run)"
     r"|(?:.*/)?(?:README\.md|LICENSE|CHANGELOG\.md|CONTRIBUTING\.md|\.gitignore|pyproject\.toml|Cargo\.toml|Cargo\.lock|rustfmt\.toml)"
     r"|clients/go/\w+\.go|wip/[\w.-]+\.(?:patch|py)|(?:.*/)?src/(?:.*/)?(?:main|lib)\.r[st]|(?:.*/)?(?:tests|examples|benches|bin)/\w+\.rs|(?:.*/)?build\.rs|(?:tests|examples)/\w+/lib\.rt\.txt|.*/start\.data"
 )
