@@ -268,6 +268,9 @@ fn start(options: Options, due: Arc<Due>) -> Result<Serving, StoreFault> {
     let operators = Operators::new(sender.clone(), patience, password_of_operators, due, membership.clone());
     let (operators, shared) = (Arc::new(operators), Arc::new(shared));
     let (listing, keys, swept) = (shared.listing.clone(), shared.keys.clone(), shared.metrics.clone());
+    if options.plant == Some(Plant::Passes) {
+        keys.let_reads_pass();
+    }
     spawn("sweep", move || sweep::sweep(&listing, &keys, &swept)).map_err(StoreFault::Thread)?;
     spawn("operators", move || admin::listen(&for_operators, &operators)).map_err(StoreFault::Thread)?;
     spawn("clients", move || clients::listen(for_clients, shared)).map_err(StoreFault::Thread)?;

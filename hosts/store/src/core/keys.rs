@@ -68,6 +68,8 @@ pub(crate) struct State {
     /// Where keys go that rest, with the end of that.
     resting: Sender<(Instant, Vec<u8>)>,
     pub(crate) flights: u64,
+    /// Whether reads pass what waits of their own connection: a fault that is planted.
+    passes: bool,
 }
 
 #[derive(Default)]
@@ -245,11 +247,17 @@ impl Keys {
             metrics,
             resting,
             flights: 0,
+            passes: false,
         };
         let keys = Arc::new(Keys { state: Mutex::new(state), asks, given: AtomicU64::new(0) });
         let weak = Arc::downgrade(&keys);
         thread::Builder::new().name("rests".into()).spawn(move || wake_all(&weak, &rests))?;
         Ok(keys)
+    }
+
+    /// From now on reads pass what waits of their own connection: a fault that is planted.
+    pub fn let_reads_pass(&self) {
+        self.state().passes = true;
     }
 
     /// A number for what is asked, by which it can be withdrawn.
@@ -373,7 +381,7 @@ impl State {
     fn ask(&mut self, id: u64, key: Vec<u8>, action: Action, to: ReplyTo) -> Option<Launch> {
         let found = self.keys.entry(key.clone()).or_default();
         let asked = Asked { id, action, to, is_over: false };
-        if asked.action.only_reads() && !found.has_of(asked.to.connection) {
+        if asked.action.only_reads() && (self.passes || !found.has_of(asked.to.connection)) {
             return Some(self.begin_reading(key, asked));
         }
         found.waiting.push_back(Queued::One(asked));

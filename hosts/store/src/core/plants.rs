@@ -26,6 +26,8 @@ pub enum Plant {
     Partly,
     /// What interferes is reported of another generation, and taken.
     Foreign,
+    /// A read passes what its own connection has asked of the key before.
+    Passes,
 }
 
 impl Plant {
@@ -42,6 +44,7 @@ impl Plant {
             "after" => Some(Plant::After),
             "partly" => Some(Plant::Partly),
             "foreign" => Some(Plant::Foreign),
+            "passes" => Some(Plant::Passes),
             _ => None,
         }
     }
@@ -51,7 +54,7 @@ impl Plant {
         match self {
             Plant::Early => Some(host::Plant::EarlyAnswer),
             Plant::Forgetful => Some(host::Plant::Forgetful),
-            Plant::Changed => None,
+            Plant::Changed | Plant::Passes => None,
             Plant::Again => Some(host::Plant::DoneTwice),
             Plant::Lacking => Some(host::Plant::WrongOpening),
             Plant::Fewer => Some(host::Plant::ReadFewer),

@@ -1,6 +1,8 @@
-//! Whether what clients of one key were answered is what one register would have answered them, each command at some
-//! moment between its question and its answer: the search of Wing and Gong, with Lowe's memory of what was tried.
-use std::collections::{BTreeSet, HashSet};
+//! Whether what clients of one key, or of two, were answered is what one register, or two, would have answered them:
+//! each command at some moment between its question and its answer, and those of a pipeline in their order. The search
+//! is that of Wing and Gong, with Lowe's memory of what was tried.
+use std::collections::{BTreeMap, BTreeSet, HashSet};
+use std::hash::Hash;
 
 /// What was asked of the key, and answered. Values are numbers, each set at most once.
 #[derive(Clone, Copy, PartialEq, Eq, Debug)]
@@ -16,13 +18,142 @@ pub enum Action {
     New(u32, Option<bool>),
 }
 
-/// A command of one key, with its moments. Without an end nothing was answered: it may have been done at any moment
+/// What was asked of two keys, and answered.
+#[derive(Clone, Copy, PartialEq, Eq, Debug)]
+pub enum OfPair {
+    /// Of the first, or of the second alone.
+    First(Action),
+    Second(Action),
+    /// Both are set at one moment.
+    Both([u32; 2]),
+    /// What both had at one moment.
+    Look([Option<u32>; 2]),
+}
+
+/// What is asked of an object, and answered.
+pub trait Act: Copy {
+    /// What the object has.
+    type State: Copy + Eq + Hash + Default;
+
+    /// What it has afterwards, if it may answer what was answered.
+    fn apply(self, state: Self::State) -> Option<Self::State>;
+
+    /// Whether it only reads.
+    fn only_reads(self) -> bool;
+
+    /// Which keys it is of: those of a pipeline that share one are done in their order.
+    fn keys(self) -> [bool; 2];
+
+    /// The values that it sets,
+    fn sets(self) -> [Option<u32>; 2];
+
+    /// those that it was answered,
+    fn shows(self) -> [Option<u32>; 2];
+
+    /// and whether it was answered that something was there, whatever it was.
+    fn shows_some(self) -> bool;
+}
+
+impl Act for Action {
+    type State = Option<u32>;
+
+    fn apply(self, state: Option<u32>) -> Option<Option<u32>> {
+        match self {
+            Action::Set(value) => Some(Some(value)),
+            Action::Get(shown) => (shown == state).then_some(state),
+            Action::Del(shown) => shown.is_none_or(|shown| shown == state.is_some()).then_some(None),
+            Action::Exchange(value, shown) => shown.is_none_or(|shown| shown == state).then_some(Some(value)),
+            Action::New(value, shown) => {
+                shown.is_none_or(|shown| shown == state.is_none()).then_some(state.or(Some(value)))
+            }
+        }
+    }
+
+    fn only_reads(self) -> bool {
+        matches!(self, Action::Get(_))
+    }
+
+    fn keys(self) -> [bool; 2] {
+        [true, false]
+    }
+
+    fn sets(self) -> [Option<u32>; 2] {
+        match self {
+            Action::Set(value) | Action::Exchange(value, _) | Action::New(value, _) => [Some(value), None],
+            Action::Get(_) | Action::Del(_) => [None; 2],
+        }
+    }
+
+    fn shows(self) -> [Option<u32>; 2] {
+        match self {
+            Action::Get(shown) | Action::Exchange(_, Some(shown)) => [shown, None],
+            _ => [None; 2],
+        }
+    }
+
+    fn shows_some(self) -> bool {
+        matches!(self, Action::Del(Some(true)) | Action::New(_, Some(false)))
+    }
+}
+
+impl Act for OfPair {
+    type State = [Option<u32>; 2];
+
+    fn apply(self, [first, second]: [Option<u32>; 2]) -> Option<[Option<u32>; 2]> {
+        match self {
+            OfPair::First(action) => action.apply(first).map(|after| [after, second]),
+            OfPair::Second(action) => action.apply(second).map(|after| [first, after]),
+            OfPair::Both(values) => Some(values.map(Some)),
+            OfPair::Look(shown) => (shown == [first, second]).then_some(shown),
+        }
+    }
+
+    fn only_reads(self) -> bool {
+        match self {
+            OfPair::First(action) | OfPair::Second(action) => action.only_reads(),
+            OfPair::Both(_) => false,
+            OfPair::Look(_) => true,
+        }
+    }
+
+    fn keys(self) -> [bool; 2] {
+        match self {
+            OfPair::First(_) => [true, false],
+            OfPair::Second(_) => [false, true],
+            OfPair::Both(_) | OfPair::Look(_) => [true, true],
+        }
+    }
+
+    fn sets(self) -> [Option<u32>; 2] {
+        match self {
+            OfPair::First(action) | OfPair::Second(action) => action.sets(),
+            OfPair::Both(values) => values.map(Some),
+            OfPair::Look(_) => [None; 2],
+        }
+    }
+
+    fn shows(self) -> [Option<u32>; 2] {
+        match self {
+            OfPair::First(action) | OfPair::Second(action) => action.shows(),
+            OfPair::Both(_) => [None; 2],
+            OfPair::Look(shown) => shown,
+        }
+    }
+
+    fn shows_some(self) -> bool {
+        matches!(self, OfPair::First(action) | OfPair::Second(action) if action.shows_some())
+    }
+}
+
+/// A command of one object, with its moments. Without an end nothing was answered: it may have been done at any moment
 /// since its start, or not at all.
 #[derive(Clone, Copy, PartialEq, Eq, Debug)]
-pub struct Operation {
-    pub action: Action,
+pub struct Operation<A = Action> {
+    pub action: A,
     pub start: u64,
     pub end: Option<u64>,
+    /// The pipeline that it was sent in: its commands that were answered and share a key are done in their order.
+    pub pipeline: Option<u32>,
 }
 
 /// What was found out.
@@ -39,21 +170,8 @@ const MOST_STEPS: u64 = 50_000_000;
 /// Most orders are found nearly straight on: within so many steps an operation it isn't noted what was tried.
 const STEPS_UNNOTED: u64 = 8;
 
-/// What the register holds afterwards, if it may answer what the action was answered.
-fn apply(state: Option<u32>, action: Action) -> Option<Option<u32>> {
-    match action {
-        Action::Set(value) => Some(Some(value)),
-        Action::Get(shown) => (shown == state).then_some(state),
-        Action::Del(shown) => shown.is_none_or(|shown| shown == state.is_some()).then_some(None),
-        Action::Exchange(value, shown) => shown.is_none_or(|shown| shown == state).then_some(Some(value)),
-        Action::New(value, shown) => {
-            shown.is_none_or(|shown| shown == state.is_none()).then_some(state.or(Some(value)))
-        }
-    }
-}
-
-/// Looks for an order. `operations` are all those of one key, which has no value at first.
-pub fn check(operations: &[Operation]) -> Verdict {
+/// Looks for an order. `operations` are all those of one object, which has no value at first.
+pub fn check<A: Act>(operations: &[Operation<A>]) -> Verdict {
     let mut operations = without_unseen(operations);
     // (so those that have their place are nearly a beginning of all)
     operations.sort_by_key(|operation| operation.start);
@@ -65,23 +183,28 @@ pub fn check(operations: &[Operation]) -> Verdict {
 
 /// Without the sets that were shown to nobody, neither themselves nor by a value: where nobody is answered that
 /// something was there, an order with one of these is one without it, too.
-fn without_unseen(operations: &[Operation]) -> Vec<Operation> {
-    let shows_some = |action: Action| matches!(action, Action::Del(Some(true)) | Action::New(_, Some(false)));
-    let is_some_shown = operations.iter().any(|operation| shows_some(operation.action));
-    let shown_by = |operation: &Operation| match operation.action {
-        Action::Get(shown) | Action::Exchange(_, Some(shown)) => shown,
-        _ => None,
-    };
-    let all_shown: HashSet<u32> = operations.iter().filter_map(shown_by).collect();
-    let is_shown = |value: u32| all_shown.contains(&value);
-    let is_needed = |operation: &Operation| match (operation.action, operation.end) {
-        (Action::Set(value) | Action::Exchange(value, _) | Action::New(value, _), None) => {
-            is_some_shown || is_shown(value)
-        }
-        (Action::Get(_), None) => false,
-        _ => true,
+fn without_unseen<A: Act>(operations: &[Operation<A>]) -> Vec<Operation<A>> {
+    let is_some_shown = operations.iter().any(|operation| operation.action.shows_some());
+    let shown: HashSet<u32> = operations.iter().flat_map(|operation| operation.action.shows()).flatten().collect();
+    let is_shown = |action: A| action.sets().iter().flatten().any(|value| shown.contains(value));
+    let is_needed = |operation: &Operation<A>| match (operation.action, operation.end) {
+        (_, Some(_)) => true,
+        (action, None) if action.only_reads() => false,
+        (action, None) if action.sets() == [None; 2] => true,
+        (action, None) => is_some_shown || is_shown(action),
     };
     operations.iter().copied().filter(is_needed).collect()
+}
+
+/// Of each those that come before it in its pipeline, of those that were answered: of each key that it is of the last.
+fn predecessors<A: Act>(operations: &[Operation<A>]) -> Vec<[Option<usize>; 2]> {
+    let mut last: BTreeMap<(u32, usize), usize> = BTreeMap::new();
+    let mut before = |(place, operation): (usize, &Operation<A>)| {
+        let pipeline = operation.pipeline.filter(|_| operation.end.is_some());
+        let keys = operation.action.keys();
+        [0, 1].map(|key| last.insert((pipeline.filter(|_| keys[key])?, key), place))
+    };
+    operations.iter().enumerate().map(&mut before).collect()
 }
 
 /// The moments that are left, in order: a list of starts and ends, linked both ways. Node 0 is its head.
@@ -105,8 +228,10 @@ impl Moments {
     }
 }
 
-struct Search<'a> {
-    operations: &'a [Operation],
+struct Search<'a, A> {
+    operations: &'a [Operation<A>],
+    /// Which have to have their place before each.
+    predecessors: Vec<[Option<usize>; 2]>,
     moments: Moments,
     /// Whose start a node is; None: it is an end.
     starts: Vec<Option<usize>>,
@@ -120,8 +245,8 @@ struct Search<'a> {
     left: usize,
 }
 
-impl<'a> Search<'a> {
-    fn new(operations: &'a [Operation]) -> Search<'a> {
+impl<'a, A: Act> Search<'a, A> {
+    fn new(operations: &'a [Operation<A>]) -> Search<'a, A> {
         let mut moments = Vec::new();
         for (place, operation) in operations.iter().enumerate() {
             // Of equal moments starts go first: so they overlap.
@@ -145,7 +270,9 @@ impl<'a> Search<'a> {
         let before = (0..count).map(|node| (node + count - 1) % count).collect();
         let left = operations.iter().filter(|operation| operation.end.is_some()).count();
         let unplaced = (0..operations.len()).collect();
-        Search { operations, moments: Moments { next, before }, starts, nodes, unplaced, greatest: vec![0], left }
+        let moments = Moments { next, before };
+        let predecessors = predecessors(operations);
+        Search { operations, predecessors, moments, starts, nodes, unplaced, greatest: vec![0], left }
     }
 
     /// Which have their place: all up to the greatest, but for these.
@@ -187,16 +314,19 @@ impl<'a> Search<'a> {
     /// Those that may come next: each that has started before the first end of all. A read that fits is the only one:
     /// where there is an order, there is one with it here. Else those that end first go first, so that what may wait
     /// waits.
-    fn candidates(&self, state: Option<u32>) -> Vec<usize> {
+    fn candidates(&self, state: A::State) -> Vec<usize> {
         let mut all = Vec::new();
         let mut node = self.moments.next[0];
         while let Some(operation) = self.starts[node] {
+            node = self.moments.next[node];
+            if self.predecessors[operation].iter().flatten().any(|before| self.unplaced.contains(before)) {
+                continue;
+            }
             let action = self.operations[operation].action;
-            if matches!(action, Action::Get(_)) && apply(state, action).is_some() {
+            if action.only_reads() && action.apply(state).is_some() {
                 return vec![operation];
             }
             all.push(operation);
-            node = self.moments.next[node];
         }
         all.sort_by_key(|operation| self.operations[*operation].end.unwrap_or(u64::MAX));
         all
@@ -205,10 +335,10 @@ impl<'a> Search<'a> {
     /// Searches for so many steps, and notes what was tried, or not.
     fn run(mut self, steps: u64, notes: bool) -> Verdict {
         let mut tried = HashSet::new();
-        let mut state = None;
+        let mut state = A::State::default();
         // What may come at each place of the order, the next one to be tried last; and what has come there, with the
         // state before it.
-        let mut order: Vec<(usize, Option<u32>)> = Vec::new();
+        let mut order: Vec<(usize, A::State)> = Vec::new();
         let mut open = vec![self.reversed(state)];
         for _ in 0..=steps {
             if self.left == 0 {
@@ -222,7 +352,7 @@ impl<'a> Search<'a> {
                 self.take_back(operation);
                 continue;
             };
-            let Some(after) = apply(state, self.operations[operation].action) else { continue };
+            let Some(after) = self.operations[operation].action.apply(state) else { continue };
             self.put_in(operation);
             if !notes || tried.insert((self.placed(), after)) {
                 order.push((operation, state));
@@ -236,7 +366,7 @@ impl<'a> Search<'a> {
         Verdict::TooLong
     }
 
-    fn reversed(&self, state: Option<u32>) -> Vec<usize> {
+    fn reversed(&self, state: A::State) -> Vec<usize> {
         self.candidates(state).into_iter().rev().collect()
     }
 }
@@ -244,14 +374,15 @@ impl<'a> Search<'a> {
 #[cfg(test)]
 mod tests {
     use super::*;
+    use crate::parts::random::Random;
     use Action::{Del, Exchange, Get, New, Set};
 
     fn at(action: Action, start: u64, end: u64) -> Operation {
-        Operation { action, start, end: Some(end) }
+        Operation { action, start, end: Some(end), pipeline: None }
     }
 
     fn unanswered(action: Action, start: u64) -> Operation {
-        Operation { action, start, end: None }
+        Operation { action, start, end: None, pipeline: None }
     }
 
     fn is_linearizable(operations: &[Operation]) -> bool {
@@ -297,46 +428,101 @@ mod tests {
         assert!(is_linearizable(&[unanswered(Get(Some(9)), 0)]));
     }
 
+    /// What a command of this place may be asked and answered, where it was answered something.
+    fn by_chance(random: &mut Random, place: u32, is_answered: bool) -> Action {
+        let drawn = random.below(3) as u32;
+        let value = if drawn == 0 { None } else { Some(drawn) };
+        match random.below(5) {
+            0 => Set(place + 1),
+            1 => Get(value),
+            2 => Exchange(place + 1, is_answered.then_some(value)),
+            3 => New(place + 1, is_answered.then_some(drawn == 0)),
+            _ => Del(is_answered.then_some(drawn == 0)),
+        }
+    }
+
+    /// Five operations with these actions, of which some are of a pipeline, which begins all at once.
+    fn drawn<A>(random: &mut Random, mut action: impl FnMut(&mut Random, u32, bool) -> A) -> Vec<Operation<A>> {
+        let mut last = random.below(6);
+        let mut one = |place: u32| {
+            let pipeline = (random.below(3) == 0).then_some(1);
+            let start = if pipeline.is_some() { 2 } else { random.below(12) };
+            let takes = 1 + random.below(6);
+            let is_answered = random.below(5) > 0;
+            let end = if pipeline.is_some() { last.max(start) + takes } else { start + takes };
+            last = if pipeline.is_some() { end } else { last };
+            Operation { action: action(random, place, is_answered), start, end: is_answered.then_some(end), pipeline }
+        };
+        (0..5).map(&mut one).collect()
+    }
+
     /// Against all orders of a few operations.
-    #[test]
-    fn as_all_orders_say() {
-        let mut random = crate::parts::random::Random::from_seed(7);
+    fn compare<A: Act + std::fmt::Debug>(draw: impl Fn(&mut Random, u32, bool) -> A) {
+        let mut random = Random::from_seed(7);
         let mut counts = [0, 0];
-        for _ in 0..4_000 {
-            let operations: Vec<Operation> = (0..5)
-                .map(|place| {
-                    let start = random.below(12);
-                    let end = (random.below(5) > 0).then_some(start + 1 + random.below(6));
-                    let drawn = random.below(3) as u32;
-                    let value = if drawn == 0 { None } else { Some(drawn) };
-                    let action = match random.below(5) {
-                        0 => Set(place + 1),
-                        1 => Get(value),
-                        2 => Exchange(place + 1, end.map(|_| value)),
-                        3 => New(place + 1, end.map(|_| drawn == 0)),
-                        _ => Del(end.map(|_| drawn == 0)),
-                    };
-                    Operation { action, start, end }
-                })
-                .collect();
-            let expected = some_order(&operations, &mut vec![false; 5], None);
-            assert_eq!(is_linearizable(&operations), expected, "{operations:?}");
+        for _ in 0..6_000 {
+            let operations = drawn(&mut random, &draw);
+            let expected = some_order(&operations, &mut vec![false; 5], A::State::default());
+            assert_eq!(check(&operations) == Verdict::Linearizable, expected, "{operations:?}");
             counts[usize::from(expected)] += 1;
         }
         assert!(counts.iter().all(|count| *count > 300), "{counts:?}");
     }
 
-    fn some_order(operations: &[Operation], placed: &mut Vec<bool>, state: Option<u32>) -> bool {
+    #[test]
+    fn as_all_orders_say() {
+        compare(by_chance);
+    }
+
+    #[test]
+    fn of_two_keys_as_all_orders_say() {
+        compare(|random, place, is_answered| match random.below(5) {
+            0 => OfPair::Both([place + 1, place + 1]),
+            1 if is_answered => OfPair::Look([0, 0].map(|_| Some(random.below(4) as u32).filter(|it| *it > 0))),
+            2 | 3 => OfPair::First(by_chance(random, place, is_answered)),
+            _ => OfPair::Second(by_chance(random, place, is_answered)),
+        });
+    }
+
+    #[test]
+    fn two_keys_change_at_one_moment() {
+        let both = Operation { action: OfPair::Both([1, 1]), start: 0, end: Some(10), pipeline: None };
+        let look = |shown, start| Operation { action: OfPair::Look(shown), start, end: Some(start + 1), ..both };
+        let one = |action, start| Operation { action, start, end: Some(start + 1), ..both };
+        assert_eq!(check(&[both, look([None, None], 1), look([Some(1), Some(1)], 3)]), Verdict::Linearizable);
+        assert_eq!(check(&[both, look([Some(1), None], 1)]), Verdict::NotLinearizable);
+        let reads = [one(OfPair::First(Get(Some(1))), 1), one(OfPair::Second(Get(None)), 3)];
+        assert_eq!(check(&[both, reads[0], reads[1]]), Verdict::NotLinearizable);
+    }
+
+    #[test]
+    fn a_pipeline_is_done_in_its_order() {
+        let sent = |action, end, pipeline| Operation { action, start: 0, end, pipeline };
+        let get_then_set = [sent(Get(Some(1)), Some(5), Some(1)), sent(Set(1), Some(6), Some(1))];
+        assert!(!is_linearizable(&get_then_set));
+        assert!(is_linearizable(&get_then_set.map(|it| Operation { pipeline: None, ..it })));
+        // (what is in doubt may be done behind what was sent after it)
+        let in_doubt = [sent(Set(1), None, Some(1)), sent(Get(None), Some(5), Some(1))];
+        assert!(is_linearizable(&[in_doubt[0], in_doubt[1], at(Get(Some(1)), 7, 8)]));
+    }
+
+    fn some_order<A: Act>(operations: &[Operation<A>], placed: &mut Vec<bool>, state: A::State) -> bool {
         let is_left = |place: usize, placed: &[bool]| !placed[place] && operations[place].end.is_some();
         if !(0..operations.len()).any(|place| is_left(place, placed)) {
             return true;
         }
         for place in 0..operations.len() {
-            let is_late = |other: usize| operations[other].end.is_some_and(|end| end < operations[place].start);
+            let is_late = |other: usize| {
+                let (it, other_one) = (&operations[place], &operations[other]);
+                let shares = (0..2).any(|key| it.action.keys()[key] && other_one.action.keys()[key]);
+                let is_before =
+                    shares && it.end.is_some() && it.pipeline.is_some() && it.pipeline == other_one.pipeline;
+                (is_before && other < place) || other_one.end.is_some_and(|end| end < it.start)
+            };
             if placed[place] || (0..operations.len()).any(|other| is_left(other, placed) && is_late(other)) {
                 continue;
             }
-            if let Some(after) = apply(state, operations[place].action) {
+            if let Some(after) = operations[place].action.apply(state) {
                 placed[place] = true;
                 let found = some_order(operations, placed, after);
                 placed[place] = false;

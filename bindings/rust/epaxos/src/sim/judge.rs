@@ -210,7 +210,7 @@ fn operation(asked: &Asked) -> Operation {
     };
     // (a read that wasn't answered shows nothing)
     let end = end.filter(|_| before.is_some() || !kind.is_reading());
-    Operation { action, start, end }
+    Operation { action, start, end, pipeline: None }
 }
 
 /// What a command that was done has written: each key, and what it got.

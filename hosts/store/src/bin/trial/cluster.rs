@@ -191,6 +191,7 @@ impl Cluster {
             Some(Plant::After) => _ = command.args(["--plant", "after"]),
             Some(Plant::Partly) => _ = command.args(["--plant", "partly"]),
             Some(Plant::Foreign) => _ = command.args(["--plant", "foreign"]),
+            Some(Plant::Passes) => _ = command.args(["--plant", "passes"]),
             Some(Plant::Emptied | Plant::Unsynced | Plant::Unsealed | Plant::Older) => {
                 _ = command.args(["--plant", "forgetful"]);
             }

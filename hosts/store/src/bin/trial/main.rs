@@ -8,6 +8,7 @@ mod flood;
 mod growing;
 mod links;
 mod options;
+mod pipelines;
 mod samples;
 mod smoke;
 mod starved;
@@ -83,29 +84,30 @@ fn play(options: &Options, round: usize) -> Result<usize, String> {
     if options.flood > 0 {
         return judged(options, &cluster, flood::run(&cluster, options)?);
     }
-    let (Notes { all: notes, mut faults }, count) = work(options, round, &cluster);
+    let (mut notes, count) = work(options, round, &cluster);
     cluster.reach(options.least_changes);
-    faults.extend(cluster.stop());
-    let answered = notes.iter().filter(|note| note.operation.end.is_some()).count();
+    notes.faults.extend(cluster.stop());
+    let ends = notes.all.iter().map(|it| it.operation.end).chain(notes.pairs.iter().map(|it| it.operation.end));
+    let answered = ends.clone().flatten().count();
     println!(
         "round {round}: {answered} commands told, {} not, {} proposed again; {} generations; {} kills, {} machines replaced, {} cuts, {} pauses; {}",
-        notes.len() - answered,
+        ends.count() - answered,
         verdict::count_lost(&cluster),
         cluster.newest(),
         count.kills,
         count.replaced,
         count.cuts,
         count.pauses,
-        waits(&notes)
+        waits(&notes.all)
     );
-    faults.extend(verdict::judge(options, &cluster, &notes));
-    Ok(report(&faults))
+    notes.faults.extend(verdict::judge(options, &cluster, &notes));
+    Ok(report(&notes.faults))
 }
 
 /// Ends the cluster, and judges what it leaves, besides these faults: how many there are.
 fn judged(options: &Options, cluster: &Cluster, mut faults: Vec<String>) -> Result<usize, String> {
     faults.extend(cluster.stop());
-    faults.extend(verdict::judge(options, cluster, &[]));
+    faults.extend(verdict::judge(options, cluster, &Notes::default()));
     Ok(report(&faults))
 }
 
@@ -126,6 +128,7 @@ fn work(options: &Options, round: usize, cluster: &Cluster) -> (Notes, Count) {
         start,
         is_over: AtomicBool::new(false),
         values: AtomicU32::new(0),
+        pipelines: AtomicU32::new(0),
         answered: AtomicU64::new(0),
         is_life: options.life,
     };

@@ -9,7 +9,7 @@ trial: a cluster of stores on this machine, clients, kills and cuts; then what t
     trial --node PATH [--short | --long | --bank | --smoke | --starved | --growing N | --flood N]
           [--replicas N] [--seconds S] [--kills K] [--rounds R] [--clients C] [--audit]
           [--sites A,B,.. [--shares P,..] [--reads P] [--trouble kill|pause|far,..] [--at A] [--most P] [--times N]]
-          [--plant early|emptied|unsynced|unsealed|older|lacking|again|changed|fewer|before|after|partly|foreign]
+          [--plant early|emptied|unsynced|unsealed|older|lacking|again|changed|fewer|before|after|partly|foreign|passes]
           [--store PATH] [--dir DIR] [--seed S]
 
     --node PATH      the program `epaxos`, which judges what is left
@@ -60,6 +60,7 @@ trial: a cluster of stores on this machine, clients, kills and cuts; then what t
     --plant after    reads that were asked later are served by what was found for earlier ones
     --plant partly   reads don't wait for the last instance that was found
     --plant foreign  replicas tell what interferes in another generation, and reads go by it
+    --plant passes   a read passes what its own connection has asked of the key before
                      (plants want stores built with the feature `plants`; the trial succeeds where one is caught)
     --store PATH     the program `store`; default: beside this one
     --dir DIR        a folder for logs; default: a new one under the system's folder for temporary files
@@ -83,6 +84,7 @@ pub enum Plant {
     After,
     Partly,
     Foreign,
+    Passes,
 }
 
 #[derive(Clone, Debug)]
@@ -286,6 +288,7 @@ fn read_plant(word: &str) -> Result<Plant, String> {
         "after" => Ok(Plant::After),
         "partly" => Ok(Plant::Partly),
         "foreign" => Ok(Plant::Foreign),
+        "passes" => Ok(Plant::Passes),
         _ => Err(format!("--plant {word}: there is none of this name (--help lists them)")),
     }
 }

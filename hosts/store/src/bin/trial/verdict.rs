@@ -1,16 +1,16 @@
 //! Judging a round: by what the clients noted, by the receipts, and by the audit of the logs.
 use crate::cluster::Cluster;
 use crate::options::Options;
-use crate::workers::Note;
+use crate::workers::{Note, Notes};
 use std::collections::BTreeMap;
 use std::path::Path;
-use store::linearizable::{self, Action, Operation, Verdict};
+use store::linearizable::{self, Act, Action, Operation, Verdict};
 use store::receipts::receipts;
 
 /// The faults of a round.
-pub fn judge(options: &Options, cluster: &Cluster, notes: &[Note]) -> Vec<String> {
+pub fn judge(options: &Options, cluster: &Cluster, notes: &Notes) -> Vec<String> {
     let mut faults = judge_notes(notes);
-    faults.extend(judge_receipts(cluster, notes).err());
+    faults.extend(judge_receipts(cluster, &notes.all).err());
     if cluster.newest() <= options.least_changes {
         faults.push(format!("there were {} generations, and more are wanted", cluster.newest()));
     }
@@ -20,21 +20,31 @@ pub fn judge(options: &Options, cluster: &Cluster, notes: &[Note]) -> Vec<String
     faults
 }
 
-/// Key by key, as registers are linearizable together where each of them is.
-fn judge_notes(notes: &[Note]) -> Vec<String> {
+/// Key by key and pair by pair, as objects are linearizable together where each of them is.
+fn judge_notes(notes: &Notes) -> Vec<String> {
     let mut faults = Vec::new();
-    let mut of_keys: BTreeMap<u64, Vec<Operation>> = BTreeMap::new();
-    notes.iter().for_each(|note| of_keys.entry(note.key).or_default().push(note.operation));
-    for (key, operations) in of_keys {
-        match linearizable::check(&operations) {
-            Verdict::Linearizable => {}
-            Verdict::NotLinearizable => {
-                faults.push(format!("what was told of key {key} isn't linearizable ({} commands)", operations.len()));
-            }
-            Verdict::TooLong => faults.push(format!("the search for an order takes too long for key {key}")),
-        }
-    }
+    let keys = notes.all.iter().map(|note| (note.key, note.operation));
+    by_object(keys).into_iter().for_each(|(key, all)| faults.extend(judge_object(&format!("key {key}"), &all)));
+    let pairs = notes.pairs.iter().map(|note| (note.pair, note.operation));
+    by_object(pairs).into_iter().for_each(|(pair, all)| faults.extend(judge_object(&format!("pair {pair}"), &all)));
     faults
+}
+
+fn by_object<A>(all: impl Iterator<Item = (u64, Operation<A>)>) -> BTreeMap<u64, Vec<Operation<A>>> {
+    let mut of_objects: BTreeMap<u64, Vec<Operation<A>>> = BTreeMap::new();
+    all.for_each(|(object, operation)| of_objects.entry(object).or_default().push(operation));
+    of_objects
+}
+
+/// What is wrong with what was told of an object.
+fn judge_object<A: Act>(object: &str, operations: &[Operation<A>]) -> Option<String> {
+    match linearizable::check(operations) {
+        Verdict::Linearizable => None,
+        Verdict::NotLinearizable => {
+            Some(format!("what was told of {object} isn't linearizable ({} commands)", operations.len()))
+        }
+        Verdict::TooLong => Some(format!("the search for an order takes too long for {object}")),
+    }
 }
 
 /// Each command that was answered has a receipt that says that it was done. (Of what was done without a reply there is

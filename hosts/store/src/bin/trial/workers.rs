@@ -1,5 +1,6 @@
 //! The clients of a round, and the notes that they take.
 use crate::cluster::Cluster;
+use crate::pipelines::{self, PairNote};
 use std::sync::atomic::{AtomicBool, AtomicU32, AtomicU64, Ordering};
 use std::thread;
 use std::time::{Duration, Instant};
@@ -34,12 +35,14 @@ pub struct Note {
 #[derive(Default)]
 pub struct Notes {
     pub all: Vec<Note>,
+    pub pairs: Vec<PairNote>,
     pub faults: Vec<String>,
 }
 
 impl Notes {
     pub fn extend(&mut self, more: Notes) {
         self.all.extend(more.all);
+        self.pairs.extend(more.pairs);
         self.faults.extend(more.faults);
     }
 }
@@ -49,8 +52,9 @@ pub struct Work<'a> {
     pub cluster: &'a Cluster,
     pub start: Instant,
     pub is_over: AtomicBool,
-    /// The last value that was made.
+    /// The last value that was made, and the last pipeline.
     pub values: AtomicU32,
+    pub pipelines: AtomicU32,
     /// How many commands were answered.
     pub answered: AtomicU64,
     /// Whether clients don't pause, and go on to other keys.
@@ -65,7 +69,7 @@ fn key_bytes(key: u64) -> Vec<u8> {
     bytes
 }
 
-fn value_bytes(value: u32) -> Vec<u8> {
+pub fn value_bytes(value: u32) -> Vec<u8> {
     let mut bytes = value.to_be_bytes().to_vec();
     if value.is_multiple_of(8) {
         bytes.resize(1_024, value as u8);
@@ -73,22 +77,44 @@ fn value_bytes(value: u32) -> Vec<u8> {
     bytes
 }
 
-fn value_of(bytes: &[u8]) -> Option<u32> {
+pub fn value_of(bytes: &[u8]) -> Option<u32> {
     let value = u32::from_be_bytes(*bytes.first_chunk()?);
     (value_bytes(value) == bytes).then_some(value)
 }
 
 /// What came of a question.
-enum Outcome {
-    Answer(Action),
+pub enum Outcome<A = Action> {
+    Answer(A),
     /// It surely wasn't done.
     Refused,
     /// It may be done.
     Nothing,
 }
 
+impl<A> Outcome<A> {
+    /// The same, of another action.
+    pub fn map<B>(self, of: impl FnOnce(A) -> B) -> Outcome<B> {
+        match self {
+            Outcome::Answer(action) => Outcome::Answer(of(action)),
+            Outcome::Refused => Outcome::Refused,
+            Outcome::Nothing => Outcome::Nothing,
+        }
+    }
+
+    fn without_answer(self) -> Outcome<()> {
+        self.map(|_| ())
+    }
+}
+
+/// What is read in the end.
+#[derive(Clone, Copy)]
+enum Last {
+    Key(u64),
+    Pair(u64),
+}
+
 impl Work<'_> {
-    fn now(&self) -> u64 {
+    pub fn now(&self) -> u64 {
         self.start.elapsed().as_nanos() as u64
     }
 
@@ -117,18 +143,22 @@ impl Work<'_> {
                 thread::sleep(Duration::from_millis(5));
                 continue;
             };
-            let key = self.choose_key(&mut random);
-            let action = self.choose_action(&mut random, key);
-            let outcome = self.note(client, replica, key, action, &mut notes);
+            let outcome = if !self.is_life && random.below(8) == 0 {
+                pipelines::run(self, client, &mut random, &mut notes)
+            } else {
+                let key = self.choose_key(&mut random);
+                let action = self.choose_action(&mut random, key);
+                self.note(client, replica, key, action, &mut notes).without_answer()
+            };
             count += 1;
             match outcome {
-                Outcome::Answer(_) => {}
+                Outcome::Answer(()) => {}
                 Outcome::Refused => replica = random.below(self.cluster.replicas as u64) as usize,
                 // Home, or wherever else somebody listens.
                 Outcome::Nothing if random.below(2) == 0 => replica = home,
                 Outcome::Nothing => replica = random.below(self.cluster.replicas as u64) as usize,
             }
-            if !matches!(outcome, Outcome::Answer(_)) || count % MOST_COMMANDS == 0 {
+            if !matches!(outcome, Outcome::Answer(())) || count % MOST_COMMANDS == 0 {
                 connection = None;
             }
         }
@@ -191,7 +221,7 @@ impl Work<'_> {
             Outcome::Nothing => (action, None),
             Outcome::Refused => return outcome,
         };
-        notes.all.push(Note { key, replica, operation: Operation { action, start, end } });
+        notes.all.push(Note { key, replica, operation: Operation { action, start, end, pipeline: None } });
         outcome
     }
 
@@ -200,21 +230,25 @@ impl Work<'_> {
         let mut notes = Notes::default();
         let mut answered_at = Instant::now();
         let mut connection = None;
-        let mut left: Vec<u64> = self.keys().collect();
-        while let Some(key) = left.pop() {
+        let pairs = if self.is_life { 0 } else { pipelines::PAIRS };
+        let mut left: Vec<Last> = self.keys().map(Last::Key).chain((0..pairs).map(Last::Pair)).collect();
+        while let Some(last) = left.pop() {
             if answered_at.elapsed() > AT_THE_END {
                 notes.faults.push(format!("replica {replica} doesn't answer in the end"));
                 return notes;
             }
-            let outcome = match self.connection(&mut connection, replica) {
-                Some(client) => self.note(client, replica, key, Action::Get(None), &mut notes),
-                None => Outcome::Nothing,
+            let outcome = match (self.connection(&mut connection, replica), last) {
+                (Some(client), Last::Key(key)) => {
+                    self.note(client, replica, key, Action::Get(None), &mut notes).without_answer()
+                }
+                (Some(client), Last::Pair(pair)) => pipelines::look(self, client, pair, &mut notes),
+                (None, _) => Outcome::Nothing,
             };
             match outcome {
-                Outcome::Answer(_) => answered_at = Instant::now(),
+                Outcome::Answer(()) => answered_at = Instant::now(),
                 Outcome::Refused | Outcome::Nothing => {
                     connection = None;
-                    left.push(key);
+                    left.push(last);
                     thread::sleep(Duration::from_millis(100));
                 }
             }
@@ -225,19 +259,46 @@ impl Work<'_> {
 
 /// An error is a reply that no store may give.
 fn ask(client: &mut Client, key: u64, action: Action) -> Result<Outcome, String> {
-    let key = key_bytes(key);
-    let reply = match action {
-        Action::Get(_) => client.ask(&[b"GET", &key]),
-        Action::Set(value) => client.ask(&[b"SET", &key, &value_bytes(value)]),
-        Action::Del(_) => client.ask(&[b"DEL", &key]),
-        Action::Exchange(value, _) => client.ask(&[b"SET", &key, &value_bytes(value), b"GET"]),
-        Action::New(value, _) => client.ask(&[b"SET", &key, &value_bytes(value), b"NX", b"PX", b"3600000"]),
-    };
-    let Ok(reply) = reply else { return Ok(Outcome::Nothing) };
-    let value_in = |bytes: Option<Vec<u8>>| match bytes {
+    let words = words(&key_bytes(key), action);
+    match client.ask(&words.iter().map(Vec::as_slice).collect::<Vec<_>>()) {
+        Ok(reply) => outcome_of(action, reply),
+        Err(_) => Ok(Outcome::Nothing),
+    }
+}
+
+/// The words of the command.
+pub fn words(key: &[u8], action: Action) -> Vec<Vec<u8>> {
+    let word = <[u8]>::to_vec;
+    match action {
+        Action::Get(_) => vec![word(b"GET"), word(key)],
+        Action::Set(value) => vec![word(b"SET"), word(key), value_bytes(value)],
+        Action::Del(_) => vec![word(b"DEL"), word(key)],
+        Action::Exchange(value, _) => vec![word(b"SET"), word(key), value_bytes(value), word(b"GET")],
+        Action::New(value, _) => {
+            vec![word(b"SET"), word(key), value_bytes(value), word(b"NX"), word(b"PX"), word(b"3600000")]
+        }
+    }
+}
+
+/// The value in a reply; none where the key has none.
+pub fn value_in(bytes: Option<Vec<u8>>) -> Result<Option<u32>, String> {
+    match bytes {
         None => Ok(None),
-        Some(bytes) => value_of(&bytes).map(Some).ok_or("a value was told that nobody has set"),
-    };
+        Some(bytes) => value_of(&bytes).map(Some).ok_or("a value was told that nobody has set".into()),
+    }
+}
+
+/// What an error in the place of a reply says of the command. One that no store may give is a fault.
+pub fn refused<A>(text: &str) -> Result<Outcome<A>, String> {
+    match Refusal::of(text) {
+        Some(Refusal::Undone) => Ok(Outcome::Refused),
+        Some(Refusal::Doubtful) => Ok(Outcome::Nothing),
+        None => Err(format!("an error that doesn't fit: {text}")),
+    }
+}
+
+/// What was answered.
+pub fn outcome_of(action: Action, reply: Reply) -> Result<Outcome, String> {
     match (action, reply) {
         (Action::Get(_), Reply::Bulk(bytes)) => Ok(Outcome::Answer(Action::Get(value_in(bytes)?))),
         (Action::Exchange(value, _), Reply::Bulk(bytes)) => {
@@ -247,11 +308,7 @@ fn ask(client: &mut Client, key: u64, action: Action) -> Result<Outcome, String>
         (Action::New(value, _), Reply::Bulk(None)) => Ok(Outcome::Answer(Action::New(value, Some(false)))),
         (Action::Set(_), Reply::Simple(text)) if text == "OK" => Ok(Outcome::Answer(action)),
         (Action::Del(_), Reply::Integer(count @ 0..2)) => Ok(Outcome::Answer(Action::Del(Some(count == 1)))),
-        (_, Reply::Error(text)) => match Refusal::of(&text) {
-            Some(Refusal::Undone) => Ok(Outcome::Refused),
-            Some(Refusal::Doubtful) => Ok(Outcome::Nothing),
-            None => Err(format!("an error that doesn't fit: {text}")),
-        },
+        (_, Reply::Error(text)) => refused(&text),
         (_, reply) => Err(format!("an answer that doesn't fit: {reply:?}")),
     }
 }
