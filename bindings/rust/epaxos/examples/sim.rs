@@ -19,13 +19,13 @@ Simulated clusters, by seeds: each is a run of hosts whose machines, disks and n
 
 usage: sim [OPTION]..          (cargo run --release --example sim -- [OPTION]..)
 
-  --seeds N          so many seeds; without it 100
-  --first SEED       from this seed on; without it from 1
+  --seeds N          how many seeds to run (default 100)
+  --first SEED       the first seed (default 1)
   --seed SEED        this seed alone
-  --seconds S        as many seeds as go into so many seconds
-  --threads N        so many seeds side by side; without it 1
+  --seconds S        runs seeds for S seconds
+  --threads N        how many seeds run in parallel (default 1)
   --mix PUTS,DELS,NEWS,READS,GETS,PAIRS,MACHINE    what clients ask for, by weight
-  --day ASKS         one day of five machines in five regions, with so many questions of clients
+  --day ASKS         one day of five machines in five regions, with ASKS client requests
   --lies             disks lie, against which nothing is promised: counts what notices it
   --audit EPAXOS     has this program audit what each run leaves
   --plant NAME,..    plants each of these faults, or `all`, and prints the seed that finds it (needs --features plants)

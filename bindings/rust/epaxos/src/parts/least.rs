@@ -4,7 +4,7 @@ use std::time::{Duration, Instant};
 
 /// So long what was measured counts, where nothing else is said.
 const REMEMBERED: Duration = Duration::from_secs(60);
-/// Of what is measured within one of so many parts of that only the least is kept.
+/// The window is divided into this many parts; of each only the least measurement is kept.
 const PARTS: u32 = 30;
 /// The least of so few may be no good one, as all of them may have met other work.
 const FEWEST: u8 = 8;

@@ -441,7 +441,7 @@ mod tests {
         }
     }
 
-    /// Five operations with these actions, of which some are of a pipeline, which begins all at once.
+    /// Five operations with these actions; some belong to one pipeline, and begin together.
     fn drawn<A>(random: &mut Random, mut action: impl FnMut(&mut Random, u32, bool) -> A) -> Vec<Operation<A>> {
         let mut last = random.below(6);
         let mut one = |place: u32| {
